@@ -1,0 +1,1 @@
+// Definitions and laws on decisions and lists that every floor above uses. It has no function.
