@@ -12,8 +12,9 @@ module _ {A : Type 0} {p : A → Type 0} (d : (a : A) → Dec (p a)) where
   of-filter [] = λ h. absurd (List·Memᴰ·not-nil h)
   of-filter {a} (x ∷ l) = ite-by (λ (r : List A). a ∈ r → (a ∈ x ∷ l) × p a) (d x)
       (λ px (h : a ∈ x ∷ filter d l). elim (List·Memᴰ·cases-cons h) [
-        inl e ↦ (List·Memᴰ·head e, subst p (sym e) px)
-      | inr t ↦ (List·Memᴰ·tail ((of-filter l t) .0), (of-filter l t) .1) ])
+        | inl e ↦ (List·Memᴰ·head e, subst p (sym e) px)
+        | inr t ↦ (List·Memᴰ·tail ((of-filter l t) .0), (of-filter l t) .1)
+      ])
       (λ nx (t : a ∈ filter d l). (List·Memᴰ·tail ((of-filter l t) .0), (of-filter l t) .1))
 
   -- what was there and has the property is left

@@ -7,7 +7,6 @@ use mathlib.Core.Logic.{_⊎_, inl, inr}
 use native.Mathlib.Decide.{ℕ-discrete}
 
 infix 40 _∈_
-
 -- a stands in l
 abbrev pub _∈_ : {A : Type 0} → A → List A → Type 0
 _∈_ a l = List·Memᴰ a l

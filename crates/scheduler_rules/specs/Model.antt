@@ -139,7 +139,8 @@ stored k x v m = record {
   live = m .live;
   held = put (record { item = x; stamp = k; value = v; mark = 0 }) (m .held);
   marks = m .marks;
-  used = m .used + 12 }
+  used = m .used + 12;
+}
 
 -- k has committed: it ends, its versions stay
 abbrev pub ended : ℕ → Model → Model

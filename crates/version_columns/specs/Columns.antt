@@ -29,4 +29,5 @@ columnsOf l = record {
   stamps = column (map (λ (u : Version). u .stamp) l);
   values = column (map (λ (u : Version). u .value) l);
   marks = column (map (λ (u : Version). u .mark) l);
-  count = length l }
+  count = length l;
+}
