@@ -1,2 +1,11 @@
 pub mod Model
 pub mod Table
+pub mod Replies
+pub mod Steps
+pub mod Sizes
+pub mod Sound
+pub mod Chosen
+pub mod Lawful
+pub mod Invariant
+pub mod Run
+pub mod PageCases

@@ -9,26 +9,9 @@ use lib.ListN.{length}
 use Rattle.lists.specs.Choice.{pick, both, either, isnt}
 use Rattle.lists.specs.Member.{_∈_, memb}
 use Rattle.log_format.specs.Events.{Event, begins, reads, writes, commits, aborts, size}
-use Rattle.scheduler_rules.specs.Model.{
-  Model,
-  Version,
-  maxOpen,
-  maxVersions,
-  maxItem,
-  start,
-  chosen,
-  beneath,
-  Waits,
-  waits?,
-  Late,
-  Wrote,
-  wrote?,
-  begun,
-  got,
-  stored,
-  ended,
-  dropped,
-}
+use Rattle.scheduler_rules.specs.Model.{Model, Version, maxOpen, maxVersions, maxItem, start}
+use Rattle.scheduler_rules.specs.Model.{chosen, beneath, Waits, waits?, Late, Wrote, wrote?}
+use Rattle.scheduler_rules.specs.Model.{begun, got, stored, ended, dropped}
 use Rattle.scheduler_rules.specs.declared.Op.{Op}
 use Rattle.scheduler_rules.specs.declared.Reply.{Reply}
 

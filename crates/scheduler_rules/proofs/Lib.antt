@@ -1,0 +1,13 @@
+pub mod Choosing
+pub mod Rows
+pub mod ReplyLaws
+pub mod StepLaws
+pub mod Unchanged
+pub mod Held
+pub mod SoundLaws
+pub mod NeverWaits
+pub mod LawfulLaws
+pub mod InvariantLaws
+pub mod Reachable
+pub mod RunLaws
+pub mod PageRun
