@@ -9,11 +9,11 @@ use native.Mathlib.Omega.{arith}
 use lib.ListN.{getD}
 use Rattle.lists.specs.Member.{_∈_}
 use Rattle.log_format.specs.Events.{Event}
-use Rattle.log_format.specs.Told.{Got, Put, Undone}
+use Rattle.log_format.specs.Told.{Got, Put, Undone, Active}
 use Rattle.scheduler_rules.specs.Model.{Version, Model, maxItem, beneath, Late}
 use Rattle.scheduler_rules.specs.Table.{Reached}
 use Rattle.scheduler_rules.specs.Chosen.{Below, Largest}
-use Rattle.scheduler_rules.specs.Lawful.{Active, Lawful, Seen}
+use Rattle.scheduler_rules.specs.Lawful.{Lawful, Seen}
 use Rattle.scheduler_rules.specs.Invariant.{OpenOrDone, Holds, MarkOf}
 use Rattle.scheduler_rules.proofs.Choosing.{beneath-is}
 use Rattle.scheduler_rules.proofs.LawfulLaws.{one-end, got-seen}

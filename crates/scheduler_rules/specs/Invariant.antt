@@ -7,9 +7,9 @@ use mathlib.Core.Logic.{_⊎_}
 use lib.ListN.{getD}
 use Rattle.lists.specs.Member.{_∈_}
 use Rattle.log_format.specs.Events.{Event}
-use Rattle.log_format.specs.Told.{Begun, Got, Put, Done}
+use Rattle.log_format.specs.Told.{Begun, Got, Put, Done, Active}
 use Rattle.scheduler_rules.specs.Model.{Version, Model, maxItem}
-use Rattle.scheduler_rules.specs.Lawful.{Active, Lawful}
+use Rattle.scheduler_rules.specs.Lawful.{Lawful}
 
 -- k is open or has committed: it was not aborted
 abbrev pub OpenOrDone : ℕ → Model → List Event → Type 0

@@ -5,12 +5,8 @@ use mathlib.Core.Path.{_≡_}
 use mathlib.Core.List.{List, [], _∷_}
 use mathlib.Core.Logic.{_⊎_}
 use Rattle.log_format.specs.Events.{Event, begins, reads, writes, commits, aborts}
-use Rattle.log_format.specs.Told.{Begun, Put, Puts, Done, Undone}
+use Rattle.log_format.specs.Told.{Begun, Put, Puts, Done, Active}
 use Rattle.scheduler_rules.specs.Model.{maxItem}
-
--- k has begun and not ended
-abbrev pub Active : ℕ → List Event → Type 0
-Active k es = Begun k es × (¬ Done k es) × (¬ Undone k es)
 
 -- k may read v in version j of x after es: its own write; or, having none, an older version, the initial one or one committed by then
 abbrev pub Saw : ℕ → ℕ → ℕ → ℕ → List Event → Type 0
