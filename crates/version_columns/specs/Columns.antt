@@ -1,8 +1,9 @@
 -- The versions that four columns hold, and the columns that hold given versions.
 -- Assumes nothing.
-use Prim.Native.Nat.{ℕ, zero, suc, _-_}
+use Prim.Native.Nat.{ℕ, _-_}
+use mathlib.Core.Path.{_≡_}
 use mathlib.Core.List.{List, [], _∷_, _++_, map}
-use lib.ListN.{length, take, replicate}
+use lib.ListN.{length, take, drop, replicate}
 use Rattle.scheduler_rules.specs.Model.{Version, maxVersions}
 use Rattle.version_columns.specs.declared.Versions.{Versions}
 
@@ -21,6 +22,11 @@ versionsOf t = take (t .count) (rows (t .items) (t .stamps) (t .values) (t .mark
 -- a column that holds xs: zeros past them
 abbrev pub column : List ℕ → List ℕ
 column xs = xs ++ replicate (maxVersions - length xs) 0
+
+-- a column of 1,024 places, with zeros past the first n
+pub record Padded (n : ℕ) (a : List ℕ) : Type 0 where
+  pub places : length a ≡ maxVersions
+  pub rest : drop n a ≡ replicate (maxVersions - n) 0
 
 -- the columns that hold l
 abbrev pub columnsOf : List Version → Versions

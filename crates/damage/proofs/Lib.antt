@@ -1,0 +1,4 @@
+pub mod PlaceLaws
+pub mod PassLaws
+pub mod RowLaws
+pub mod DamageLaws

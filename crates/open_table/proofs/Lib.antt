@@ -1,0 +1,4 @@
+pub mod BitLaws
+pub mod TableLaws
+pub mod ScanLaws
+pub mod IntactLaws

@@ -1,0 +1,10 @@
+pub mod AnswerLaws
+pub mod BelowLaws
+pub mod Bracket
+pub mod ChosenLaws
+pub mod ColumnLaws
+pub mod Joined
+pub mod Narrow
+pub mod RaiseLaws
+pub mod RowLaws
+pub mod Shift
