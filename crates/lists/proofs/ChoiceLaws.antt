@@ -2,6 +2,7 @@
 -- Assumes nothing.
 use mathlib.Core.Path.{_≡_, refl}
 use mathlib.Core.Logic.{ite}
+use mathlib.Core.Bool.{Bool, true, false, cond}
 use Rattle.lists.specs.Choice.{pick}
 
 -- by cases on the library's if-then-else
@@ -28,3 +29,8 @@ pick-no (no n) a b h = refl
 pub not-not : {P : Type 0} → Dec P → ¬ (¬ P) → P
 not-not (yes p) h = p
 not-not (no n) h = absurd (h n)
+
+-- by cases on a computed test
+pub cond-by : {A : Type 0} (Q : A → Type 0) (b : Bool) {x y : A} → (b ≡ true → Q x) → (b ≡ false → Q y) → Q (cond b x y)
+cond-by Q true f g = f refl
+cond-by Q false f g = g refl

@@ -1,0 +1,3 @@
+pub mod PlanLaws
+pub mod WholeLaws
+pub mod GoodLaws
