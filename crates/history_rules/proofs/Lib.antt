@@ -1,0 +1,13 @@
+pub mod Tells
+pub mod Stages
+pub mod FaultLaws
+pub mod FieldSteps
+pub mod OrderLaws
+pub mod ScanLaws
+pub mod DanglingLaws
+pub mod FoundAnswers
+pub mod GivenAnswers
+pub mod HistoryLaws
+pub mod HeldLaws
+pub mod SmallLogsLaws
+pub mod NoneLaws
