@@ -1,2 +1,4 @@
 pub mod Choice
 pub mod Member
+pub mod Order
+pub mod Tests
