@@ -2,7 +2,7 @@
 -- by row; the other by the rows as equations.
 -- Assumes nothing.
 use Prim.Native.Nat.{ℕ}
-use mathlib.Core.Path.{_≡_, sym, _∙_}
+use mathlib.Core.Path.{_≡_, refl, sym, _∙_}
 use mathlib.Core.List.{[], _∷_}
 use mathlib.Core.Logic.{_≢_}
 use native.Mathlib.Decide.{ℕ-discrete}
@@ -106,3 +106,23 @@ module _ (room : ℕ) (op : Op) (m : Model) where
       go (written p n8 h) e = is-fine p n8
       go (committed p h) e = is-fine p (other h (omega arith))
       go (aborted p h) e = is-fine p (other h (omega arith))
+
+  -- whatever writes a record is well-formed
+  pub due-good : (table room op m) .due ≢ [] → Good op
+  due-good = go (replies)
+    where
+      go : {o : Outcome} → Given room op m o → o .due ≢ [] → Good op
+      go (given2 t) n = absurd (n refl)
+      go (given3 n2 t) n = absurd (n refl)
+      go (given4 n2 n3 t) n = absurd (n refl)
+      go (given5 n2 n3 n4 t) n = absurd (n refl)
+      go (given6 n2 n3 n4 n5 t) n = absurd (n refl)
+      go (given7 n2 n3 n4 n5 n6 t) n = absurd (n refl)
+      go (given9 n2 n3 n4 n5 n6 n7 t) n = absurd (n refl)
+      go (given10 n2 n3 n4 n5 n6 n7 n9 t) n = absurd (n refl)
+      go (given8 p t) n = good op m (p .not2)
+      go (began p h) n = good op m (p .not2)
+      go (read p h) n = good op m (p .not2)
+      go (written p n8 h) n = good op m (p .not2)
+      go (committed p h) n = good op m (p .not2)
+      go (aborted p h) n = good op m (p .not2)

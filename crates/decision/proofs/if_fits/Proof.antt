@@ -4,23 +4,16 @@ use borrow.Author.Tests.{lt-ltb, le-ltb}
 use borrow.Author.Needs.{needs}
 use Rattle.decision.proofs.if_fits.Statement.{statement}
 use Rattle.decision.proofs.if_fits.Tie as tie
-use Rattle.decision.proofs.if_fits.Reads as reads
-use Rattle.decision.proofs.if_fits.Lts as lts
-use Rattle.decision.proofs.refuse.Reads as refuse-reads
 
--- src/lib.rt:60:15
 add-if1 : tie.Need-add-if1
 add-if1 c = search needs
 
--- src/lib.rt:60:26
 refuse-requires : tie.Need-refuse-requires
 refuse-requires c κs = search needs
 
--- src/lib.rt:56:1
 returns : tie.Need-returns
 returns c = rw (lt-ltb _ _ (c .before .if1 .taken)) (c .refuse .ensures)
 
--- src/lib.rt:56:1
 returns-2 : tie.Need-returns-2
 returns-2 c = rw (le-ltb _ _ (c .if1 .left))
 

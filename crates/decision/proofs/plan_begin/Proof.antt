@@ -4,37 +4,25 @@ use borrow.Author.Tests.{le-leb, lt-leb}
 use borrow.Author.Needs.{needs}
 use Rattle.decision.proofs.plan_begin.Statement.{statement}
 use Rattle.decision.proofs.plan_begin.Tie as tie
-use Rattle.decision.proofs.plan_begin.Reads as reads
-use Rattle.decision.proofs.plan_begin.Lts as lts
-use Rattle.decision.proofs.if_fits.Reads as if-fits-reads
-use Rattle.decision.proofs.proceed.Reads as proceed-reads
-use Rattle.decision.proofs.refuse.Reads as refuse-reads
 
--- src/lib.rt:82:9
 refuse-requires : tie.Need-refuse-requires
 refuse-requires c κs = search needs
 
--- src/lib.rt:82:9
 returns : tie.Need-returns
 returns c = rw (le-leb _ _ (c .before .if1 .taken)) (c .refuse .ensures)
 
--- src/lib.rt:85:9
 refuse-requires-2 : tie.Need-refuse-requires-2
 refuse-requires-2 c κs = search needs
 
--- src/lib.rt:85:9
 returns-2 : tie.Need-returns-2
 returns-2 c = rw (lt-leb _ _ (c .before .before .if1 .left), le-leb _ _ (c .before .if2 .taken)) (c .refuse2 .ensures)
 
--- src/lib.rt:87:28
 proceed-requires : tie.Need-proceed-requires
 proceed-requires c κs = search needs
 
--- src/lib.rt:87:5
 if-fits-requires : tie.Need-if-fits-requires
 if-fits-requires c κs = search needs
 
--- src/lib.rt:77:1
 returns-3 : tie.Need-returns-3
 returns-3 c = rw (lt-leb _ _ (c .before .before .before .if1 .left), lt-leb _ _ (c .before .before .if2 .left), ← c .before .proceed .ensures) (c .if-fits .ensures)
 

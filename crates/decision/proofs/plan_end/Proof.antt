@@ -4,32 +4,22 @@ use borrow.Author.Tests.{eq-eqb, ne-eqb}
 use borrow.Author.Needs.{needs}
 use Rattle.decision.proofs.plan_end.Statement.{statement}
 use Rattle.decision.proofs.plan_end.Tie as tie
-use Rattle.decision.proofs.plan_end.Reads as reads
-use Rattle.decision.proofs.plan_end.Lts as lts
-use Rattle.decision.proofs.if_fits.Reads as if-fits-reads
-use Rattle.decision.proofs.proceed.Reads as proceed-reads
 
--- src/lib.rt:96:39
 proceed-requires : tie.Need-proceed-requires
 proceed-requires c κs = search needs
 
--- src/lib.rt:96:9
 if-fits-requires : tie.Need-if-fits-requires
 if-fits-requires c κs = search needs
 
--- src/lib.rt:96:9
 returns : tie.Need-returns
 returns c = rw (eq-eqb _ _ (c .before .before .if1 .taken), ← c .before .proceed .ensures) (c .if-fits .ensures)
 
--- src/lib.rt:98:28
 proceed-requires-2 : tie.Need-proceed-requires-2
 proceed-requires-2 c κs = search needs
 
--- src/lib.rt:98:5
 if-fits-requires-2 : tie.Need-if-fits-requires-2
 if-fits-requires-2 c κs = search needs
 
--- src/lib.rt:91:1
 returns-2 : tie.Need-returns-2
 returns-2 c = rw (ne-eqb _ _ (c .before .before .if1 .left), ← c .before .proceed2 .ensures) (c .if-fits2 .ensures)
 

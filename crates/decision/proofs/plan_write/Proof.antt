@@ -4,50 +4,34 @@ use borrow.Author.Tests.{eq-eqb, ne-eqb, lt-ltb, le-ltb, le-leb, lt-leb}
 use borrow.Author.Needs.{needs}
 use Rattle.decision.proofs.plan_write.Statement.{statement}
 use Rattle.decision.proofs.plan_write.Tie as tie
-use Rattle.decision.proofs.plan_write.Reads as reads
-use Rattle.decision.proofs.plan_write.Lts as lts
-use Rattle.decision.proofs.answer.Reads as answer-reads
-use Rattle.decision.proofs.if_fits.Reads as if-fits-reads
-use Rattle.decision.proofs.proceed.Reads as proceed-reads
-use Rattle.decision.proofs.refuse.Reads as refuse-reads
 
--- src/lib.rt:144:9
 refuse-requires : tie.Need-refuse-requires
 refuse-requires c κs = search needs
 
--- src/lib.rt:144:9
 returns : tie.Need-returns
 returns c = rw (eq-eqb _ _ (c .before .if1 .taken)) (c .refuse .ensures)
 
--- src/lib.rt:148:39
 answer-requires : tie.Need-answer-requires
 answer-requires c κs = search needs
 
--- src/lib.rt:148:9
 if-fits-requires : tie.Need-if-fits-requires
 if-fits-requires c κs = search needs
 
--- src/lib.rt:148:9
 returns-2 : tie.Need-returns-2
 returns-2 c = rw (ne-eqb _ _ (c .before .before .before .before .before .if1 .left), lt-ltb _ _ (c .before .before .if2 .taken), ← c .before .answer .ensures) (c .if-fits .ensures)
 
--- src/lib.rt:151:9
 refuse-requires-2 : tie.Need-refuse-requires-2
 refuse-requires-2 c κs = search needs
 
--- src/lib.rt:151:9
 returns-3 : tie.Need-returns-3
 returns-3 c = rw (ne-eqb _ _ (c .before .before .before .before .before .if1 .left), le-ltb _ _ (c .before .before .if2 .left), le-leb _ _ (c .before .if3 .taken)) (c .refuse2 .ensures)
 
--- src/lib.rt:153:29
 proceed-requires : tie.Need-proceed-requires
 proceed-requires c κs = search needs
 
--- src/lib.rt:153:5
 if-fits-requires-2 : tie.Need-if-fits-requires-2
 if-fits-requires-2 c κs = search needs
 
--- src/lib.rt:138:1
 returns-4 : tie.Need-returns-4
 returns-4 c = rw (ne-eqb _ _ (c .before .before .before .before .before .before .if1 .left), le-ltb _ _ (c .before .before .before .if2 .left), lt-leb _ _ (c .before .before .if3 .left), ← c .before .proceed .ensures) (c .if-fits2 .ensures)
 

@@ -10,26 +10,17 @@ use lib.ListN.{length}
 use borrow.Author.Needs.{needs}
 use Rattle.decision.proofs.planned.Statement.{statement}
 use Rattle.decision.proofs.planned.Tie as tie
-use Rattle.decision.proofs.planned.Reads as reads
-use Rattle.decision.proofs.planned.Lts as lts
-use Rattle.decision.proofs.decide.Reads as decide-reads
-use Rattle.decision.proofs.good.Reads as good-reads
-use Rattle.decision.proofs.refuse.Reads as refuse-reads
-use Rattle.decision.proofs.sound.Reads as sound-reads
 
 -- the open table's array has the length that its type says
 open-full : (c : tie.Start) → length (c .args .c .live .stamps) ≡ 32
 open-full c = sym (length-map (c .args .c .live .stamps) _) ∙ c .good .0 .1 .1 .1 .1 .0 .1 .1 .0 .1 .0 .1
 
--- src/lib.rt:265:8
 sound-requires : tie.Need-sound-requires
 sound-requires c κs = search needs
 
--- src/lib.rt:266:12
 good-requires : tie.Need-good-requires
 good-requires c κs = search needs
 
--- src/lib.rt:267:13
 decide-requires : tie.Need-decide-requires
 decide-requires c κs =
     let s = c .before .before .before .before in
@@ -37,25 +28,20 @@ decide-requires c κs =
     let v : s .args .op .value ≤ 4294967295 = omega (arith, z) in
     can-decide _ _ _ _ _ _ _ _ (c .before .before .before .before .pre .0) (open-full s) (c .before .before .before .before .pre .1) (sym (c .before .before .before .sound .ensures) ∙ c .before .before .if1 .taken) (good-is _ v (sym (c .before .good2 .ensures) ∙ c .if2 .taken))
 
--- src/lib.rt:267:13
 returns : tie.Need-returns
 returns c = plan-decided (sym (c .before .before .before .before .sound .ensures) ∙ c .before .before .before .if1 .taken) (c .decide .ensures)
 
--- src/lib.rt:269:9
 refuse-requires : tie.Need-refuse-requires
 refuse-requires c κs = search needs
 
--- src/lib.rt:269:9
 returns-2 : tie.Need-returns-2
 returns-2 c =
     let s = c .before .before .before .before .before in
     rw (c .refuse .ensures) (bad-planned _ _ _ _ _ _ _ _ (c .before .before .before .before .before .pre .0) (open-full s) (c .before .before .before .before .before .pre .1) (sym (c .before .before .before .before .sound .ensures) ∙ c .before .before .before .if1 .taken) (not-good _ (sym (c .before .before .good2 .ensures) ∙ c .before .if2 .left)))
 
--- src/lib.rt:271:5
 refuse-requires-2 : tie.Need-refuse-requires-2
 refuse-requires-2 c κs = search needs
 
--- src/lib.rt:251:1
 returns-3 : tie.Need-returns-3
 returns-3 c = rw (c .refuse2 .ensures) (plan-damaged (sym (c .before .before .sound .ensures) ∙ c .before .if1 .left))
 

@@ -1,0 +1,4 @@
+pub mod StateLaws
+pub mod CallLaws
+pub mod Something
+pub mod FreshLaws
