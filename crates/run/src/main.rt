@@ -56,7 +56,11 @@ fn keep(line: &mut [u8; 64], len: usize, b: u8) -> usize {
 
 // What was read of a last line without newline: where no byte was, there is no such line.
 fn last(some: bool, len: usize, c: Cursor) -> Taken {
-    if some { Taken::Line(len, c) } else { Taken::End }
+    if some {
+        Taken::Line(len, c)
+    } else {
+        Taken::End
+    }
 }
 
 // The next line. A proved loop has to end, and nothing says that the input does, so it counts down from a number that no run uses up.

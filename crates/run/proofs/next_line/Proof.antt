@@ -3,11 +3,6 @@
 use borrow.Author.Needs.{needs}
 use Rattle.run.proofs.next_line.Statement.{statement}
 use Rattle.run.proofs.next_line.Tie as tie
-use Rattle.run.proofs.next_line.Reads as reads
-use Rattle.run.proofs.next_line.Lts as lts
-use Rattle.run.proofs.keep.Reads as keep-reads
-use Rattle.run.proofs.last.Reads as last-reads
-use Rattle.run.proofs.next_byte.Reads as next-byte-reads
 
 abbrev Inv-loop : tie.InvT-loop
 Inv-loop chunk₀ line₀ c₀ len₀ some₀ turns₀ chunk line c len some turns = Unit {0}
@@ -15,51 +10,39 @@ Inv-loop chunk₀ line₀ c₀ len₀ some₀ turns₀ chunk line c len some tur
 abbrev μ-loop : tie.MeasureT-loop
 μ-loop chunk₀ line₀ c₀ len₀ some₀ turns₀ chunk line c len some turns = turns
 
--- src/main.rt:68:5
 loop-holds : tie.Need-loop-holds Inv-loop μ-loop
 loop-holds c = search needs
 
--- src/main.rt:69:13
 next-byte-requires : tie.Need-next-byte-requires Inv-loop μ-loop
 next-byte-requires c κs = search needs
 
--- src/main.rt:70:22
 enum-known-b : tie.Need-enum-known-b Inv-loop μ-loop
 enum-known-b c = search needs
 
--- src/main.rt:71:13
 enum-told : tie.Need-enum-told Inv-loop μ-loop
 enum-told c = search needs
 
--- src/main.rt:71:13
 last-requires : tie.Need-last-requires Inv-loop μ-loop
 last-requires c κs = search needs
 
--- src/main.rt:71:13
 returns : tie.Need-returns Inv-loop μ-loop
 returns c = search needs
 
--- src/main.rt:75:13
 returns-2 : tie.Need-returns-2 Inv-loop μ-loop
 returns-2 c = search needs
 
--- src/main.rt:77:9
 keep-requires : tie.Need-keep-requires Inv-loop μ-loop
 keep-requires c κs = search needs
 
--- src/main.rt:79:9
 sub-turns : tie.Need-sub-turns Inv-loop μ-loop
 sub-turns c = search needs
 
--- src/main.rt:68:5
 loop-less : tie.Need-loop-less Inv-loop μ-loop
 loop-less c = search needs
 
--- src/main.rt:68:5
 loop-again : tie.Need-loop-again Inv-loop μ-loop
 loop-again c = search needs
 
--- src/main.rt:63:1
 returns-3 : tie.Need-returns-3 Inv-loop μ-loop
 returns-3 c = search needs
 

@@ -5,23 +5,16 @@ use lib.Seq.{length-take-le}
 use borrow.Author.Needs.{needs}
 use Rattle.run.proofs.parse_part.Statement.{statement}
 use Rattle.run.proofs.parse_part.Tie as tie
-use Rattle.run.proofs.parse_part.Reads as reads
-use Rattle.run.proofs.parse_part.Lts as lts
-use Rattle.op_lines.proofs.parse.Reads as parse-reads
 
--- src/main.rt:87:32
 slice-aggregate-parse : tie.Need-slice-aggregate-parse
 slice-aggregate-parse c = sym (length-take-le _ _ (c .before .if1 .taken))
 
--- src/main.rt:87:9
 parse-requires : tie.Need-parse-requires
 parse-requires c κs = search needs
 
--- src/main.rt:87:9
 returns : tie.Need-returns
 returns c = search needs
 
--- src/main.rt:85:1
 returns-2 : tie.Need-returns-2
 returns-2 c = search needs
 
