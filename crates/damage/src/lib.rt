@@ -1,4 +1,6 @@
 // The damage pass over the versions' columns and the initial marks: one look at each number, and no early way out of a loop.
+use scheduler_rules::Op;
+use version_columns::Versions;
 ghost use Prim.Native.Nat.{_≤_};
 ghost use mathlib.Core.Path.{_≡_};
 ghost use lib.Dec.{eqb};
@@ -7,10 +9,6 @@ ghost use Rattle.scheduler_rules.specs.Model.{maxVersions};
 ghost use Rattle.open_table.specs.Intact.{zeros};
 ghost use Rattle.damage.specs.Damage.{places, rowSound, rowsSound, columnsSound, marksSound};
 
-// A column has this many places.
-const ROWS: usize = 1024;
-// The largest item.
-const MOST_ITEM: u32 = 63;
 // There is an initial mark for each item.
 const ITEMS: usize = 64;
 
@@ -18,7 +16,7 @@ const ITEMS: usize = 64;
 fn row_bad(w: u32, j: u32, x: u32, k: u32, m: u32, last: u32) -> u32
     ensures { λ r. ⌜ eqb r 0 ≡ rowSound w j last x k m ⌝ }
 {
-    ((MOST_ITEM < x) | (k == 0) | (last < k) | (last < m) | (x < w) | ((x == w) & (k <= j))) as u32
+    ((Op::MOST_ITEM < x) | (k == 0) | (last < k) | (last < m) | (x < w) | ((x == w) & (k <= j))) as u32
 }
 
 // Whether the rows before the count are in bounds and rise by item, then stamp.
@@ -53,7 +51,7 @@ fn zero_from(a: &[u32; 1024], from: usize) -> bool
 {
     let mut some: u32 = 0;
     let mut i: usize = from;
-    while i < ROWS {
+    while i < Versions::MOST {
         some = some | a[i];
         i += 1;
     }
@@ -71,7 +69,7 @@ pub fn columns_sound<'a>(
 ) -> bool
     ensures { λ r. ⌜ r ≡ columnsSound (now (items .entry)) (now (stamps .entry)) (now (values .entry)) (now (marks .entry)) count last ⌝ }
 {
-    if ROWS < count {
+    if Versions::MOST < count {
         return false;
     }
     rows_sound(items, stamps, marks, count, last)

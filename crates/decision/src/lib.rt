@@ -13,9 +13,6 @@ ghost use Rattle.open_table.specs.Open.{stampsOf};
 ghost use Rattle.decision.specs.Plans.{answerPlan, no, go, fitting, waitsOn, beginPlan, endPlan, readPlan, writePlan, goodOp};
 ghost use Rattle.decision.specs.Decided.{Sized, modelOf, undamagedIn, CanDecide, Decided, PlanIs};
 
-// The largest item.
-const MOST_ITEM: u32 = 63;
-
 // The small part of a state: the last begun stamp, the log bytes used, the open transactions.
 pub struct Core {
     pub last: Stamp,
@@ -176,10 +173,10 @@ fn good(op: Op) -> bool
         return false;
     }
     if kind == 2 {
-        return (op.item <= MOST_ITEM) & (op.value == 0);
+        return (op.item <= Op::MOST_ITEM) & (op.value == 0);
     }
     if kind == 3 {
-        return op.item <= MOST_ITEM;
+        return op.item <= Op::MOST_ITEM;
     }
     if (kind == 1) | ((kind == 4) | (kind == 5)) {
         return (op.item == 0) & (op.value == 0);

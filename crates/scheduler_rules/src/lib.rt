@@ -9,6 +9,11 @@ pub struct Op {
     pub value: u32,
 }
 
+impl Op {
+    // Items are 0 to this.
+    pub const MOST_ITEM: u32 = 63;
+}
+
 // A reply: the code, then what the page's table says of the code.
 pub struct Reply {
     pub code: u32,
