@@ -4,3 +4,4 @@ pub mod TestLaws
 pub mod OrderLaws
 pub mod RisingLaws
 pub mod PlaceLaws
+pub mod ShiftLaws

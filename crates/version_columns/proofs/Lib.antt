@@ -7,4 +7,3 @@ pub mod Joined
 pub mod Narrow
 pub mod RaiseLaws
 pub mod RowLaws
-pub mod Shift

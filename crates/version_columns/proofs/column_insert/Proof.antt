@@ -5,7 +5,7 @@ use mathlib.Core.Path.{_≡_, _∙_, ap, sym}
 use Prim.Native.Nat.{_≤_, _+_, _-_}
 use native.Mathlib.Omega.{arith}
 use lib.ListN.{length, set, getD}
-use Rattle.version_columns.proofs.Shift.{opened, opened-none, opened-read, opened-more, opened-set}
+use Rattle.lists.proofs.ShiftLaws.{opened, opened-none, opened-read, opened-more, opened-set}
 use Rattle.version_columns.proofs.column_insert.Statement.{statement}
 use Rattle.version_columns.proofs.column_insert.Tie as tie
 

@@ -1,0 +1,5 @@
+pub mod OtherKinds
+pub mod WalkLaws
+pub mod PassedLaws
+pub mod SettleLaws
+pub mod NodesLaws

@@ -1,0 +1,227 @@
+// The history of a log, codes 21 to 27, and its committed transactions. One walk finds the first bad field and notes every record in a map; a second finds
+// the first read from a transaction that never commits; a third gathers the committed stamps. Each field costs a few lookups in the map, so the whole is
+// near-linear in the log's bytes; a log whose stamps are chosen to share one bucket of the map costs the square of its fields, at most 9,361.
+// Working memory is the caller's: slices of numbers, lent, and left with the map of a log that passes.
+ghost use mathlib.Core.Path.{_≡_};
+ghost use Prim.Native.Nat.{_+_, _≤_};
+ghost use lib.ListN.{length, take};
+ghost use Rattle.lists.specs.Member.{Rising};
+ghost use Rattle.log_format.specs.Events.{eventOf};
+ghost use Rattle.history_rules.specs.WellFormed.{mostCommitted, isCommit, countCommits};
+ghost use Rattle.history_rules.specs.History.{eventsIn, fieldsFrom, dangling};
+ghost use Rattle.index.specs.Index.{Table};
+ghost use Rattle.transactions.specs.Transactions.{stageBy};
+ghost use Rattle.history.specs.Judging.{maxRows, stoppedWith, Lent, Walked, later, Judgement};
+ghost use Rattle.history.specs.Nodes.{Passes, WithCommit, Nodes};
+use log_format::Decoded;
+use log_format::Place;
+use log_format::Record;
+
+// A log's verdict as far as codes 21 to 27 go: it passes, and so many transactions committed; or a code, and the place beside it.
+pub enum Verdict {
+    Passed(usize),
+    Refused(u32, Place),
+}
+
+impl Verdict {
+    // No log passes with more committed transactions.
+    pub const MOST_COMMITTED: usize = 256;
+}
+
+// A verdict, and the number of rows of the map.
+pub struct Judged {
+    pub verdict: Verdict,
+    pub rows: usize,
+}
+
+// ---- codes 22 to 25
+
+// 1 for a commit, else 0.
+fn commits_in(r: Record) -> usize
+    ensures { λ k. ⌜ (k ≡ isCommit (eventOf r)) × (k ≤ 1) ⌝ }
+{
+    match r {
+        Record::Begin(_) => 0,
+        Record::Read {
+            stamp: _,
+            item: _,
+            version: _,
+            value: _,
+        } => 0,
+        Record::Write {
+            stamp: _,
+            item: _,
+            value: _,
+        } => 0,
+        Record::Commit(_) => 1,
+        Record::Abort { stamp: _, cause: _ } => 0,
+    }
+}
+
+// What is said where no further record stands, after k commits and with n rows: all fields are right, or a broken one is handed up with its place.
+fn stopped(d: Decoded, n: usize, k: usize) -> Judged
+    ensures { λ r. ⌜ r ≡ stoppedWith d n k ⌝ }
+{
+    match d {
+        Decoded::Field(_, _) => Judged {
+            verdict: Verdict::Passed(k),
+            rows: n,
+        },
+        Decoded::End => Judged {
+            verdict: Verdict::Passed(k),
+            rows: n,
+        },
+        Decoded::Bad(p) => Judged {
+            verdict: Verdict::Refused(22, p),
+            rows: n,
+        },
+    }
+}
+
+// The first bad field with its code, or how many commit; the map then has every record noted.
+fn walk(
+    log: &[u8],
+    keys: &mut [u64],
+    next: &mut [usize],
+    head: &mut [usize],
+    vals: &mut [u64],
+) -> Judged
+    requires { ⌜ (Lent (now keys) (now next) (now head) (now vals)) × ((4 ≤ length (now log)) × (length (now log) ≤ 65536)) ⌝ }
+    ensures { λ r. ⌜ Walked (now (log .entry)) (now (keys .exit)) (now (next .exit)) (now (head .exit)) (now (vals .exit)) r ⌝ }
+{
+    let mut at: usize = Place::FIRST;
+    let mut n: usize = 0;
+    let mut k: usize = 0;
+    loop {
+        let d = log_reader::decode_at(log, Place(at));
+        let Decoded::Field(r, p) = d else {
+            return stopped(d, n, k);
+        };
+        let c = transactions::fault(keys, next, head, vals, n, r);
+        if c != 0 {
+            let verdict = Verdict::Refused(c, Place(at));
+            return Judged { verdict, rows: n };
+        }
+        n = transactions::note(keys, next, head, vals, n, r);
+        k += commits_in(r);
+        at = p.0;
+    }
+}
+
+// ---- codes 26 and 27
+
+// Whether a record is a read by a committed transaction from one that has not committed.
+fn dangling_read(
+    keys: &[u64],
+    next: &[usize],
+    head: &[usize],
+    vals: &[u64],
+    n: usize,
+    r: Record,
+) -> bool
+    requires { ⌜ Table (now keys) (now next) (now head) (now vals) n ⌝ }
+    ensures { λ b. ⌜ b ≡ dangling (stageBy (now (keys .entry)) (now (vals .entry)) n) (eventOf r) ⌝ }
+{
+    let Record::Read {
+        stamp,
+        item: _,
+        version,
+        value: _,
+    } = r
+    else {
+        return false;
+    };
+    if transactions::stage_of(keys, next, head, vals, n, stamp) != transactions::COMMITTED {
+        return false;
+    }
+    if version.0 == 0 {
+        return false;
+    }
+    transactions::stage_of(keys, next, head, vals, n, version) != transactions::COMMITTED
+}
+
+// The verdict on a log whose fields are right, where k commit: 26, then 27 with the first such read's place, else it passes.
+fn settle(
+    log: &[u8],
+    keys: &[u64],
+    next: &[usize],
+    head: &[usize],
+    vals: &[u64],
+    n: usize,
+    k: usize,
+) -> Verdict
+    requires { ⌜ (Table (now keys) (now next) (now head) (now vals) n) × ((4 ≤ length (now log)) × (k ≡ countCommits (eventsIn (fieldsFrom (now log) 4)))) ⌝ }
+    ensures { λ r. ⌜ r ≡ later (stageBy (now (keys .entry)) (now (vals .entry)) n) (fieldsFrom (now (log .entry)) 4) ⌝ }
+{
+    if Verdict::MOST_COMMITTED < k {
+        return Verdict::Refused(26, Place(0));
+    }
+    let mut at: usize = Place::FIRST;
+    loop {
+        let d = log_reader::decode_at(log, Place(at));
+        let Decoded::Field(r, p) = d else {
+            return Verdict::Passed(k);
+        };
+        if dangling_read(keys, next, head, vals, n, r) {
+            return Verdict::Refused(27, Place(at));
+        }
+        at = p.0;
+    }
+}
+
+// ---- the whole
+
+// The verdict on a log, with the map of its transactions in the lent slices where it passes.
+pub fn judge(
+    log: &[u8],
+    keys: &mut [u64],
+    next: &mut [usize],
+    head: &mut [usize],
+    vals: &mut [u64],
+) -> Judged
+    requires { ⌜ Lent (now keys) (now next) (now head) (now vals) ⌝ }
+    ensures { λ r. ⌜ Judgement (now (log .entry)) (now (keys .exit)) (now (next .exit)) (now (head .exit)) (now (vals .exit)) r ⌝ }
+{
+    if log_reader::header_ok(log) {
+        let j = walk(log, keys, next, head, vals);
+        let v = j.verdict;
+        let rows = j.rows;
+        let Verdict::Passed(k) = v else {
+            return j;
+        };
+        let verdict = settle(log, keys, next, head, vals, rows, k);
+        return Judged { verdict, rows };
+    }
+    let verdict = Verdict::Refused(21, Place(0));
+    Judged { verdict, rows: 0 }
+}
+
+// ---- the committed transactions
+
+// The stamps with that of a record that commits; their count then.
+fn with_commit(nodes: &mut [u32], n: usize, r: Record) -> usize
+    requires { ⌜ (n + isCommit (eventOf r) ≤ length (now nodes)) × Rising 0 (take n (now nodes)) ⌝ }
+    ensures { λ m. ⌜ WithCommit (now (nodes .entry)) n (eventOf r) (now (nodes .exit)) m ⌝ }
+{
+    let Record::Commit(t) = r else {
+        return n;
+    };
+    sorted::add(nodes, n, t.0)
+}
+
+// The stamps of the committed transactions of a log that passes, rising, and their count. No place past them changes.
+pub fn gather(log: &[u8], nodes: &mut [u32]) -> usize
+    requires { ⌜ (Passes (now log)) × (mostCommitted ≤ length (now nodes)) ⌝ }
+    ensures { λ r. ⌜ Nodes (now (log .entry)) (now (nodes .entry)) (now (nodes .exit)) r ⌝ }
+{
+    let mut at: usize = Place::FIRST;
+    let mut n: usize = 0;
+    loop {
+        let d = log_reader::decode_at(log, Place(at));
+        let Decoded::Field(r, p) = d else {
+            return n;
+        };
+        n = with_commit(nodes, n, r);
+        at = p.0;
+    }
+}
