@@ -3,7 +3,7 @@
 -- Assumes nothing.
 use Prim.Native.Nat.{ℕ}
 use mathlib.Core.Path.{_≡_, refl, ap, subst}
-use mathlib.Core.Logic.{inl, inr, _↔_}
+use mathlib.Core.Logic.{inl, inr, _↔_, _≢_}
 use mathlib.Core.List.{List, [], _∷_, Memᴰ·cast}
 use mathlib.Core.Bool.{true, not, _&&_, _||_}
 use lib.Dec.{eqb}
@@ -16,7 +16,7 @@ use Rattle.log_format.specs.Events.{Event, begins, reads, writes, commits, abor
 use Rattle.log_format.specs.Told.{Done}
 use Rattle.log_format.proofs.ToldLaws.{done-is, got-is, put-is}
 use Rattle.graph_theory.specs.Graph.{Decides}
-use Rattle.serial_theory.specs.Edges.{versions, ReadsFrom, Wrote, Edge, drawn, readsFrom, comesBefore, comesAfter}
+use Rattle.serial_theory.specs.Edges.{versions, Wrote, Draws, Edge, drawn, readsFrom, comesBefore, comesAfter}
 use Rattle.serial_theory.specs.EdgeTest.{commitOf, done, before, draws, byWrite, byRead, edge}
 
 pub done-true : (log : List Event) (t : ℕ) → done log t ≡ true → Done t log
@@ -47,25 +47,25 @@ true-before (a ∷ l) i j (inr b) = true-right (eqb i a && any (eqb j) l) (befor
 -- ---- what passes is an edge
 
 module _ (log : List Event) (vs : ℕ → List ℕ) (a b : ℕ) where
-  -- the edge drawn from i to j is the one from a to b
-  placed : (i j : ℕ) → (eqb a i && eqb b j) ≡ true → Edge log vs i j → Edge log vs a b
-  placed i j e f = let p = both-true (eqb a i) (eqb b j) e in rw (eqb-true a i (p .0), eqb-true b j (p .1)) f
+  -- the edge drawn from i to h is the one from a to b
+  placed : (k x j i h : ℕ) → (eqb a i && eqb b h) ≡ true → Draws log vs k x j i h → Draws log vs k x j a b
+  placed k x j i h e d = let p = both-true (eqb a i) (eqb b h) e in rw (eqb-true a i (p .0), eqb-true b h (p .1)) d
 
-  draws-edge : (k x j i : ℕ) → ReadsFrom log k x j → Wrote log i x j k → draws log vs a b k x j i ≡ true → Edge log vs a b
-  draws-edge k x j i f w e = elim (one-true (before (versions vs x) i j && (eqb a i && eqb b j)) (before (versions vs x) j i && (eqb a k && eqb b i)) e) [
-    | inl h ↦ (let p = both-true (before (versions vs x) i j) _ h in placed i j (p .1) (drawn f (comesBefore w (before-true (versions vs x) i j (p .0)))))
-    | inr h ↦ (let p = both-true (before (versions vs x) j i) _ h in placed k i (p .1) (drawn f (comesAfter w (before-true (versions vs x) j i (p .0)))))
+  version-drawn : (k x j i : ℕ) → Wrote log i x j k → draws log vs a b k x j i ≡ true → Draws log vs k x j a b
+  version-drawn k x j i w e = elim (one-true (before (versions vs x) i j && (eqb a i && eqb b j)) (before (versions vs x) j i && (eqb a k && eqb b i)) e) [
+    | inl h ↦ (let p = both-true (before (versions vs x) i j) _ h in placed k x j i j (p .1) (comesBefore w (before-true (versions vs x) i j (p .0))))
+    | inr h ↦ (let p = both-true (before (versions vs x) j i) _ h in placed k x j k i (p .1) (comesAfter w (before-true (versions vs x) j i (p .0))))
   ]
 
-  write-edge : (k x j : ℕ) → ReadsFrom log k x j → (e : Event) → e ∈ log → byWrite log vs a b k x j e ≡ true → Edge log vs a b
-  write-edge k x j f (begins u) m e = false-true e
-  write-edge k x j f (reads u y h v) m e = false-true e
-  write-edge k x j f (writes i y v) m e =
+  write-drawn : (k x j : ℕ) (e : Event) → e ∈ log → byWrite log vs a b k x j e ≡ true → Draws log vs k x j a b
+  write-drawn k x j (begins u) m e = false-true e
+  write-drawn k x j (reads u y h v) m e = false-true e
+  write-drawn k x j (writes i y v) m e =
       let p = both-true (eqb y x) _ e in
       let q = both-true (done log i) _ (p .1) in
       let r = both-true (not (eqb i j)) _ (q .1) in
       let s = both-true (not (eqb i k)) _ (r .1) in
-      draws-edge k x j i f
+      version-drawn k x j i
       (record {
         done = done-true log i (q .0);
         put = (v, put-is i x v log .1 (subst (λ (z : ℕ). writes i z v ∈ log) (eqb-true y x (p .0)) m));
@@ -73,19 +73,26 @@ module _ (log : List Event) (vs : ℕ → List ℕ) (a b : ℕ) where
         not-k = differ i k (s .0);
       })
       (s .1)
-  write-edge k x j f (commits u) m e = false-true e
-  write-edge k x j f (aborts u c) m e = false-true e
+  write-drawn k x j (commits u) m e = false-true e
+  write-drawn k x j (aborts u c) m e = false-true e
+
+  -- what passes at a read is drawn by it
+  pub read-true : (k x j v : ℕ) → byRead log vs a b (reads k x j v) ≡ true → Done k log × (j ≢ k) × Draws log vs k x j a b
+  read-true k x j v e =
+      let p = both-true (done log k) _ e in
+      let q = both-true (not (eqb j k)) _ (p .1) in (
+        done-true log k (p .0),
+        differ j k (q .0),
+        elim (one-true (not (eqb j 0) && (eqb a j && eqb b k)) (any (byWrite log vs a b k x j) log) (q .1)) [
+          | inl h ↦ (let r = both-true (not (eqb j 0)) _ h in placed k x j j k (r .1) (readsFrom (differ j 0 (r .0))))
+          | inr h ↦ (let r = any-true (byWrite log vs a b k x j) log h in write-drawn k x j (r .0) (r .1) (r .2))
+        ],
+      )
 
   read-edge : (e : Event) → e ∈ log → byRead log vs a b e ≡ true → Edge log vs a b
   read-edge (begins u) m e = false-true e
   read-edge (reads k x j v) m e =
-      let p = both-true (done log k) _ e in
-      let q = both-true (not (eqb j k)) _ (p .1) in
-      let f : ReadsFrom log k x j = record { value = v; done = done-true log k (p .0); got = got-is k x j v log .1 m; other = differ j k (q .0) } in
-      elim (one-true (not (eqb j 0) && (eqb a j && eqb b k)) (any (byWrite log vs a b k x j) log) (q .1)) [
-        | inl h ↦ (let r = both-true (not (eqb j 0)) _ h in placed j k (r .1) (drawn f (readsFrom (differ j 0 (r .0)))))
-        | inr h ↦ (let r = any-true (byWrite log vs a b k x j) log h in write-edge k x j f (r .0) (r .1) (r .2))
-      ]
+      let r = read-true k x j v e in drawn (record { value = v; done = r .0; got = got-is k x j v log .1 m; other = r .1 }) (r .2)
   read-edge (writes i y v) m e = false-true e
   read-edge (commits u) m e = false-true e
   read-edge (aborts u c) m e = false-true e
@@ -97,22 +104,25 @@ module _ (log : List Event) (vs : ℕ → List ℕ) (a b : ℕ) where
 -- ---- an edge passes
 
 module _ (log : List Event) (vs : ℕ → List ℕ) where
-  by-read : (a b k x j : ℕ) (f : ReadsFrom log k x j) → ((not (eqb j 0) && (eqb a j && eqb b k)) || any (byWrite log vs a b k x j) log) ≡ true → edge log vs a b ≡ true
-  unfolding edge
-  by-read a b k x j f e =
-      any-holds (byRead log vs a b) log (reads k x j (f .value)) (got-is k x j (f .value) log .0 (f .got)) (rw (true-done log k (f .done), differs j k (f .other)) e)
+  by-write : (a b k x j i : ℕ) (w : Wrote log i x j k) → draws log vs a b k x j i ≡ true → any (byWrite log vs a b k x j) log ≡ true
+  by-write a b k x j i w e = any-holds (byWrite log vs a b k x j) log (writes i x (w .put .0)) (put-is i x (w .put .0) log .0 (w .put .1))
+      (rw (eq-eqb x x refl, true-done log i (w .done), differs i j (w .not-j), differs i k (w .not-k)) e)
 
-  by-write : (a b k x j i : ℕ) (f : ReadsFrom log k x j) (w : Wrote log i x j k) → draws log vs a b k x j i ≡ true → edge log vs a b ≡ true
-  by-write a b k x j i f w e = by-read a b k x j f (true-right (not (eqb j 0) && (eqb a j && eqb b k)) _
-      (any-holds (byWrite log vs a b k x j) log (writes i x (w .put .0)) (put-is i x (w .put .0) log .0 (w .put .1))
-      (rw (eq-eqb x x refl, true-done log i (w .done), differs i j (w .not-j), differs i k (w .not-k)) e)))
+  drawn-passes : (k x j : ℕ) {a b : ℕ} → Draws log vs k x j a b → ((not (eqb j 0) && (eqb a j && eqb b k)) || any (byWrite log vs a b k x j) log) ≡ true
+  drawn-passes k x j (readsFrom nz) = true-left (not (eqb j 0) && (eqb j j && eqb k k)) _ (rw (differs j 0 nz, eq-eqb j j refl, eq-eqb k k refl))
+  drawn-passes k x j (comesBefore {i} w o) = true-right (not (eqb j 0) && (eqb i j && eqb j k)) _ (by-write i j k x j i w
+      (true-left (before (versions vs x) i j && (eqb i i && eqb j j)) _ (rw (true-before (versions vs x) i j o, eq-eqb i i refl, eq-eqb j j refl))))
+  drawn-passes k x j (comesAfter {i} w o) = true-right (not (eqb j 0) && (eqb k j && eqb i k)) _ (by-write k i k x j i w
+      (true-right (before (versions vs x) i j && (eqb k i && eqb i j)) _ (rw (true-before (versions vs x) j i o, eq-eqb k k refl, eq-eqb i i refl))))
+
+  -- what a read draws passes at it
+  pub true-read : (a b k x j v : ℕ) → Done k log → j ≢ k → Draws log vs k x j a b → byRead log vs a b (reads k x j v) ≡ true
+  true-read a b k x j v h n d = rw (true-done log k h, differs j k n) (drawn-passes k x j d)
 
   pub true-edge : {a b : ℕ} → Edge log vs a b → edge log vs a b ≡ true
-  true-edge (drawn {k} {x} {j} f (readsFrom nz)) = by-read j k k x j f (true-left (not (eqb j 0) && (eqb j j && eqb k k)) _ (rw (differs j 0 nz, eq-eqb j j refl, eq-eqb k k refl)))
-  true-edge (drawn {k} {x} {j} f (comesBefore {i} w o)) = by-write i j k x j i f w
-      (true-left (before (versions vs x) i j && (eqb i i && eqb j j)) _ (rw (true-before (versions vs x) i j o, eq-eqb i i refl, eq-eqb j j refl)))
-  true-edge (drawn {k} {x} {j} f (comesAfter {i} w o)) = by-write k i k x j i f w
-      (true-right (before (versions vs x) i j && (eqb k i && eqb i j)) _ (rw (true-before (versions vs x) j i o, eq-eqb k k refl, eq-eqb i i refl)))
+  unfolding edge
+  true-edge {a} {b} (drawn {k} {x} {j} f d) =
+      any-holds (byRead log vs a b) log (reads k x j (f .value)) (got-is k x j (f .value) log .0 (f .got)) (true-read a b k x j (f .value) (f .done) (f .other) d)
 
   -- the test computes the edges
   pub edge-decides : Decides (edge log vs) (Edge log vs)

@@ -1,26 +1,28 @@
 -- What a regular log gives: stamps are not 0, a transaction writes an item once and commits once. Of two events of a log one stands before the
 -- other, so it is in the past that the other is right after.
 -- Assumes nothing.
-use Prim.Native.Nat.{ℕ}
+use Prim.Native.Nat.{ℕ, _≤_}
 use mathlib.Core.Path.{_≡_, sym, subst}
-use mathlib.Core.Logic.{_≢_}
-use mathlib.Core.List.{List, [], _∷_, List·Memᴰ·head, List·Memᴰ·tail}
+use mathlib.Core.Logic.{_⊎_, inl, inr, _≢_}
+use mathlib.Core.List.{List, [], _∷_, List·Memᴰ·head, List·Memᴰ·tail, List·Memᴰ·cases-cons}
 use Rattle.lists.specs.Member.{_∈_}
 use Rattle.lists.proofs.OrderLaws.{in-nil}
-use Rattle.log_format.specs.Events.{Event, writes, commits}
-use Rattle.log_format.specs.Told.{Put, Done}
-use Rattle.log_format.proofs.ToldLaws.{put-is, done-is}
-use Rattle.history_rules.specs.WellFormed.{Right, AllRight, WellFormed}
+use Rattle.log_format.specs.Events.{Event, reads, writes, commits}
+use Rattle.log_format.specs.Told.{Got, Put, Done}
+use Rattle.log_format.proofs.ToldLaws.{got-is, put-is, done-is}
+use Rattle.history_rules.specs.WellFormed.{mostItem, Right, AllRight, WellFormed}
 use Rattle.serial_theory.specs.Edges.{Regular}
 
 pub regular : (log : List Event) → WellFormed log → Regular log
 regular log w = record { right = w .right; from = w .from }
 
--- an event of the log is right after some past
-right-at : (e : Event) (past log : List Event) → AllRight past log → e ∈ log → (p : List Event) × Right p e
+-- an event of the log is right after some past, all of which stands in the log
+right-at : (e : Event) (past log : List Event) → AllRight past log → e ∈ log → (p : List Event) × Right p e × ((d : Event) → d ∈ p → (d ∈ past) ⊎ (d ∈ log))
 right-at e past [] r m = in-nil m
-right-at e past (f ∷ log) r (List·Memᴰ·head q) = (past, subst (λ (g : Event). Right past g) (sym q) (r .0))
-right-at e past (f ∷ log) r (List·Memᴰ·tail m) = right-at e (f ∷ past) log (r .1) m
+right-at e past (f ∷ log) r (List·Memᴰ·head q) = (past, subst (λ (g : Event). Right past g) (sym q) (r .0), λ d n. inl n)
+right-at e past (f ∷ log) r (List·Memᴰ·tail m) =
+    let s = right-at e (f ∷ past) log (r .1) m in
+    (s .0, s .1, λ d n. elim (s .2 d n) [ inl k ↦ elim (List·Memᴰ·cases-cons k) [ inl q ↦ inr (List·Memᴰ·head q) | inr o ↦ inl o ] | inr k ↦ inr (List·Memᴰ·tail k) ])
 
 -- and after a past with what stood before
 pub right-after : (d e : Event) (past log : List Event) → AllRight past log → d ∈ past → e ∈ log → (p : List Event) × Right p e × (d ∈ p)
@@ -32,6 +34,15 @@ module _ (log : List Event) (g : Regular log) where
   -- a committed transaction is not 0
   pub done-stamp : (t : ℕ) → Done t log → t ≢ 0
   done-stamp t d = right-at (commits t) [] log (g .right) (done-is t log .0 d) .1 .0
+
+  -- a read is of one of the items, and a version read was written
+  pub read-item : (t x j v : ℕ) → Got t x j v log → x ≤ mostItem
+  read-item t x j v h = right-at (reads t x j v) [] log (g .right) (got-is t x j v log .0 h) .1 .1 .0
+
+  pub read-written : (t x j v : ℕ) → Got t x j v log → j ≢ 0 → Put j x v log
+  read-written t x j v h nz =
+      let s = right-at (reads t x j v) [] log (g .right) (got-is t x j v log .0 h) in
+      put-is j x v log .1 (elim (s .2 (writes j x v) (put-is j x v (s .0) .0 (s .1 .1 .1 .wrote nz))) [ inl n ↦ in-nil n | inr n ↦ n ])
 
 module _ (t x v w : ℕ) where
   again : (past log : List Event) → AllRight past log → writes t x v ∈ past → ¬ (writes t x w ∈ log)

@@ -1,0 +1,5 @@
+pub mod MatrixLaws
+pub mod AddingLaws
+pub mod DrawnLaws
+pub mod RankedLaws
+pub mod DrawingLaws

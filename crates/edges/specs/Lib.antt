@@ -1,0 +1,4 @@
+pub mod Matrix
+pub mod Drawn
+pub mod Adding
+pub mod Ranked

@@ -1,0 +1,63 @@
+-- The answer of the graph and what is written: the stamps of the verdict, 4 bytes each, high byte first.
+-- Assumes nothing.
+use Prim.Native.Nat.{ℕ, _≤_, _<_}
+use mathlib.Core.Path.{_≡_}
+use mathlib.Core.List.{List, [], _∷_, _++_, map}
+use lib.ListN.{length, getD}
+use lib.Seq.{slice}
+use Rattle.log_format.specs.Bytes.{bytes4, splice}
+use Rattle.graph_theory.specs.Verdict.{Verdict, accepted, cycle, stampsOf, verdictOf}
+use Rattle.graph_theory.specs.Standing.{renamed}
+use Rattle.edges.specs.Matrix.{mostNodes, matrixSize, edgeAt}
+use Rattle.graph.specs.Nodes.{indices}
+use Rattle.graph.specs.Walked.{LeastAt}
+use Rattle.graph.specs.declared.Found.{Found}
+use Rattle.graph.specs.declared.Found.the-variants.{Accepted, Cycle}
+
+-- the page's code for each answer, and its number
+abbrev pub foundCode : Found → ℕ
+foundCode (Accepted n) = 0
+foundCode (Cycle n) = 30
+
+abbrev pub foundNumber : Found → ℕ
+foundNumber (Accepted n) = n
+foundNumber (Cycle n) = n
+
+-- stamps, 4 bytes each
+abbrev pub bytesOf : List ℕ → List ℕ
+bytesOf [] = []
+bytesOf (x ∷ l) = bytes4 x ++ bytesOf l
+
+-- the stamps of nodes
+abbrev pub stampsAt : List ℕ → List ℕ → List ℕ
+stampsAt nodes l = map (λ (k : ℕ). getD nodes k 0) l
+
+-- the numbers from f to before t are below n
+abbrev pub AllBelow : ℕ → List ℕ → ℕ → ℕ → Type 0
+AllBelow n l f t = (i : ℕ) → f ≤ i → i < t → getD l i 0 < n
+
+-- the stamps of the part from f to before t of the path are written, turned so that the smallest comes first
+pub record Turned (nodes path : List ℕ) (f t : ℕ) (answer after : List ℕ) : Type 0 where
+  pub place : ℕ
+  pub least : LeastAt path f t place
+  pub is : after ≡ splice answer 0 (bytesOf (stampsAt nodes (slice place t path ++ slice f place path)))
+
+-- there is a matrix for 256 nodes, there are no more nodes than that, and each has room for its number
+pub record Rooms (m d : List ℕ) (count : ℕ) : Type 0 where
+  pub matrix : matrixSize ≤ length m
+  pub few : count ≤ mostNodes
+  pub numbers : count ≤ length d
+
+-- the verdict on the graph of a matrix over the nodes below count, with their stamps
+unfoldable pub verdictAt : List ℕ → ℕ → List ℕ → Verdict
+verdictAt m count nodes = renamed (λ (k : ℕ). getD nodes k 0) (verdictOf (edgeAt m) (indices count))
+
+-- a verdict as an answer: which, and how many stamps
+abbrev pub foundOf : Verdict → Found
+foundOf (accepted o) = Accepted (length o)
+foundOf (cycle c) = Cycle (length c)
+
+-- the answer is the verdict's, the verdict's stamps stand at the front of `after`, and every other byte is that of `answer`
+pub record Answered (v : Verdict) (answer after : List ℕ) (r : Found) : Type 0 where
+  pub found : r ≡ foundOf v
+  pub bytes : after ≡ splice answer 0 (bytesOf (stampsOf v))

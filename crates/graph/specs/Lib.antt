@@ -1,0 +1,4 @@
+pub mod Nodes
+pub mod Taken
+pub mod Walked
+pub mod Answer
