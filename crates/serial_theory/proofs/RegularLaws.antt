@@ -17,7 +17,7 @@ pub regular : (log : List Event) → WellFormed log → Regular log
 regular log w = record { right = w .right; from = w .from }
 
 -- an event of the log is right after some past, all of which stands in the log
-right-at : (e : Event) (past log : List Event) → AllRight past log → e ∈ log → (p : List Event) × Right p e × ((d : Event) → d ∈ p → (d ∈ past) ⊎ (d ∈ log))
+pub right-at : (e : Event) (past log : List Event) → AllRight past log → e ∈ log → (p : List Event) × Right p e × ((d : Event) → d ∈ p → (d ∈ past) ⊎ (d ∈ log))
 right-at e past [] r m = in-nil m
 right-at e past (f ∷ log) r (List·Memᴰ·head q) = (past, subst (λ (g : Event). Right past g) (sym q) (r .0), λ d n. inl n)
 right-at e past (f ∷ log) r (List·Memᴰ·tail m) =

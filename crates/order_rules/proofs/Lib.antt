@@ -1,0 +1,10 @@
+pub mod Cases
+pub mod ReadingLaws
+pub mod VersionLaws
+pub mod RightLaws
+pub mod UpwardLaws
+pub mod TimestampLaws
+pub mod WroteLaws
+pub mod RankLaws
+pub mod TableLaws
+pub mod NoFields

@@ -1,0 +1,3 @@
+pub mod SearchLaws
+pub mod NoteLaws
+pub mod WalkLaws
