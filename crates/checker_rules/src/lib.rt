@@ -7,3 +7,9 @@ pub enum Checked {
     Cycle(usize),
     Refused(u32, Place),
 }
+
+// What writing the timestamp order answers: so many bytes, or a refusal's code and number.
+pub enum Ordered {
+    Bytes(usize),
+    Refused(u32, Place),
+}
