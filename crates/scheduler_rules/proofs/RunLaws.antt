@@ -21,7 +21,7 @@ leads-last here = omega arith
 leads-last (on room op n l) = let a = leads-last l in let b = last-rises room op n in omega arith
 
 -- at most one event is written at a time, so its order is both orders
-one-event : (room : ℕ) (op : Op) (m : Model) (es : List Event) → reverseAux ((table room op m) .due) es ≡ (table room op m) .due ++ es
+pub one-event : (room : ℕ) (op : Op) (m : Model) (es : List Event) → reverseAux ((table room op m) .due) es ≡ (table room op m) .due ++ es
 one-event room op m es = table-to (λ (n : Model) (ds : List Event). reverseAux ds es ≡ ds ++ es) room op m refl (λ _ _. refl) (λ _ _ _. refl) (λ _ _ _ _. refl) (λ _ _. refl) (λ _ _ _ _. refl)
 
 -- a run from a reachable model leaves a reachable one; what it wrote comes on top, newest first

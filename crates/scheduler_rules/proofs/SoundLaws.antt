@@ -31,7 +31,7 @@ rising-snoc : (n k : ℕ) (l : List ℕ) → n ≤ k → ((i : ℕ) → i ∈ l 
 rising-snoc n k [] h b r = (h, tt)
 rising-snoc n k (i ∷ l) h b r = (r .0, rising-snoc (suc i) k l (b i (List·Memᴰ·head refl)) (λ j t. b j (List·Memᴰ·tail t)) (r .1))
 
-rising-filter : {p : ℕ → Type 0} (d : (a : ℕ) → Dec (p a)) (n : ℕ) (l : List ℕ) → Rising n l → Rising n (filter d l)
+pub rising-filter : {p : ℕ → Type 0} (d : (a : ℕ) → Dec (p a)) (n : ℕ) (l : List ℕ) → Rising n l → Rising n (filter d l)
 rising-filter d n [] r = tt
 rising-filter d n (k ∷ l) r = ite-by (Rising n) (d k)
     (λ _. (r .0, rising-filter d (suc k) l (r .1)))

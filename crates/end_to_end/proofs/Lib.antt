@@ -1,0 +1,7 @@
+pub mod TimestampLaws
+pub mod RightLaws
+pub mod BytesLaws
+pub mod RisingEdges
+pub mod Calls
+pub mod Demand3Laws
+pub mod NotEmptilyLaws

@@ -1,0 +1,2 @@
+pub mod TimestampOrder
+pub mod Demand3
