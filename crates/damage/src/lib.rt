@@ -16,7 +16,12 @@ const ITEMS: usize = 64;
 fn row_bad(w: u32, j: u32, x: u32, k: u32, m: u32, last: u32) -> u32
     ensures { λ r. ⌜ eqb r 0 ≡ rowSound w j last x k m ⌝ }
 {
-    ((Op::MOST_ITEM < x) | (k == 0) | (last < k) | (last < m) | (x < w) | ((x == w) & (k <= j))) as u32
+    ((Op::MOST_ITEM < x)
+        | (k == 0)
+        | (last < k)
+        | (last < m)
+        | (x < w)
+        | ((x == w) & (k <= j))) as u32
 }
 
 // Whether the rows before the count are in bounds and rise by item, then stamp.

@@ -51,9 +51,11 @@ module _ (b₀ : List ℕ) where
       let room : roomOf b ≡ roomOf b₀ = rw (length-is r) in
       let t : table (roomOf b) op (abs (stateOf m)) ≡ o = ap (λ (n : ℕ). table n op (abs (stateOf m))) room ∙ ap (λ (n : Model). table (roomOf b₀) op n) (abs-state m) ∙ e in
       let p : stateAfter (stateOf m) op b ≡ stateOf (o .next) = state-left (stateOf m) op b (never-damaged r) ∙ ap (λ (z : Outcome). stateOf (z .next)) t in
-      let q : dueTo (stateOf m) op b ≡ o .due = events-left (stateOf m) op b (never-damaged r) ∙ ap (λ (z : Outcome). z .due) t in
-      (logAfter (stateOf m) op b, subst (λ (z : State). Reach b₀ z (logAfter (stateOf m) op b) (o .due ++ es)) p
-      (subst (λ (ds : List Event). Reach b₀ (stateAfter (stateOf m) op b) (logAfter (stateOf m) op b) (ds ++ es)) q (called (stateOf m) b es op f r)))
+      let q : dueTo (stateOf m) op b ≡ o .due = events-left (stateOf m) op b (never-damaged r) ∙ ap (λ (z : Outcome). z .due) t in (
+        logAfter (stateOf m) op b,
+        subst (λ (z : State). Reach b₀ z (logAfter (stateOf m) op b) (o .due ++ es)) p
+            (subst (λ (ds : List Event). Reach b₀ (stateAfter (stateOf m) op b) (logAfter (stateOf m) op b) (ds ++ es)) q (called (stateOf m) b es op f r)),
+      )
 
 -- ---- a run of operations
 

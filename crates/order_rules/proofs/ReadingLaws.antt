@@ -225,9 +225,9 @@ module _ (s : List ℕ) (b : Bytes s) where
       found-by s at (λ d. after (fieldsAt k s) s at d ≡ some fs → (drop at s ≡ orderOf fs) × Fits fs × Filled fs)
       (λ l e. let q : fs ≡ [] = cc in rw q (drop-of-length-le s l, tt, tt))
       (λ x n t e.
-        let r = before-some _ (fieldsAt k s (nextAt at n)) fs e in
-        let ih = fields-written k (nextAt at n) (r .0) (r .1) in
-        rw (r .2) (stands-written at x n t ∙ ap (λ (l : List ℕ). fieldOf x (stampsAt s (at + 4) n) ++ l) (ih .0), (stands-fits at x n t, ih .1), filled-one s (at + 4) x n (r .0) (t .some) (ih .2)))
+      let r = before-some _ (fieldsAt k s (nextAt at n)) fs e in
+      let ih = fields-written k (nextAt at n) (r .0) (r .1) in
+      rw (r .2) (stands-written at x n t ∙ ap (λ (l : List ℕ). fieldOf x (stampsAt s (at + 4) n) ++ l) (ih .0), (stands-fits at x n t, ih .1), filled-one s (at + 4) x n (r .0) (t .some) (ih .2)))
       (λ e. none-some e)
 
 -- bytes that are read as an order are its fields' bytes; these fit, and none is empty

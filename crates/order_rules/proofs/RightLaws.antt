@@ -90,10 +90,13 @@ module _ (wr : ℕ → ℕ → ℕ) (nodes : List ℕ) where
         let here = h j (List·Memᴰ·head refl) in
         let new : any (eqb j) seen ≡ false = not-passed _ (λ e. here .1 (any-in j seen e)) in
         rw (here .0, new)
-        (is-once (seen ++ j ∷ []) ks (d .1) (λ k m. (h k (List·Memᴰ·tail m) .0, λ o. elim (List·Memᴰ·append-cases seen o) [
-          | inl p ↦ h k (List·Memᴰ·tail m) .1 p
-          | inr p ↦ elim (List·Memᴰ·cases-cons p) [ inl f ↦ d .0 (Memᴰ·cast (sym f) m) | inr z ↦ in-nil z ]
-        ])))
+        (is-once (seen ++ j ∷ []) ks (d .1) (λ k m. (
+          h k (List·Memᴰ·tail m) .0,
+          λ o. elim (List·Memᴰ·append-cases seen o) [
+            | inl p ↦ h k (List·Memᴰ·tail m) .1 p
+            | inr p ↦ elim (List·Memᴰ·cases-cons p) [ inl f ↦ d .0 (Memᴰ·cast (sym f) m) | inr z ↦ in-nil z ]
+          ],
+        )))
 
   -- fields that pass: the items rise, and each list is of committed versions of an item that the page has, each once
   pub sound-is : (least : ℕ) (fs : List Field) → sound wr nodes least fs ≡ true
@@ -148,9 +151,9 @@ module _ (wr : ℕ → ℕ → ℕ) (nodes : List ℕ) where
   none-left vs h = not-passed _ (λ e.
       let r = any-true _ nodes e in
       let f = none-below (missing wr nodes vs (r .0)) allItems (λ x l. not-passed _ (λ g.
-        let q = both-true _ (not (any (eqb (r .0)) (vs x))) g in
-        let s = in-any (r .0) (vs x) (h (r .0) x (r .1) (omega arith) (differ _ _ (q .0))) in
-        false-true (sym (not-true _ (q .1)) ∙ s))) in
+      let q = both-true _ (not (any (eqb (r .0)) (vs x))) g in
+      let s = in-any (r .0) (vs x) (h (r .0) x (r .1) (omega arith) (differ _ _ (q .0))) in
+      false-true (sym (not-true _ (q .1)) ∙ s))) in
       false-true (sym f ∙ r .2))
 
 -- ---- the test and the relation

@@ -57,7 +57,7 @@ module _ (log : List Event) (w : WellFormed log) where
   pub version-is : (x i : ℕ) → (isVersion (written (reverse log)) (committed log) x i ≡ true) ↔ Version log x i
   version-is x i = (
     λ e. let r = both-true (any (eqb i) (committed log)) _ e in
-      (committed-is log i .0 (any-in i (committed log) (r .0)), written-puts i x .0 (differ _ _ (r .1))),
+        (committed-is log i .0 (any-in i (committed log) (r .0)), written-puts i x .0 (differ _ _ (r .1))),
     λ v. let a = in-any i (committed log) (committed-is log i .1 (v .0)) in rw a (differs _ _ (written-puts i x .1 (v .1))),
   )
 

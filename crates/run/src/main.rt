@@ -1,5 +1,7 @@
 // Runs operation lines from standard input over a log of 65,536 bytes, and writes the replies, then `log` and the bytes used, to
-// standard output. With two arguments it also writes the log to the file that the first one names.
+// standard output. With two arguments it also writes the log to the file that the first one names, and, where the log has one, its
+// timestamp order to that of the second.
+use checker_rules::Ordered;
 use libc::STDIN_FILENO;
 use libc::STDOUT_FILENO;
 use line_format::Parsed;
@@ -161,11 +163,25 @@ fn write_file(i: usize, log: &[u8], n: usize) {
     libc::close(fd);
 }
 
+// Writes the timestamp order of the log's first bytes to the file that the second argument names, where the log has one.
+fn write_order(log: &[u8], used: usize) {
+    if log.len() < used {
+        return;
+    }
+    let mut order = [0u8; 65792];
+    let a = checker::write_order(&log[..used], &mut order);
+    let Ordered::Bytes(n) = a else {
+        return;
+    };
+    write_file(2, &order, n);
+}
+
 fn main() {
     let mut log = io::large_buffer();
     let used = serve(&mut log);
     say_used(used);
     if os::arg_count() == 3 {
         write_file(1, &log, used);
+        write_order(&log, used);
     }
 }

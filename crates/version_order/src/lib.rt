@@ -21,6 +21,7 @@ use order_rules::Found;
 const TAG: u8 = 32;
 // The largest item, and how many there are.
 const MOST_ITEM: u8 = 63;
+
 const ITEMS: usize = 64;
 
 // ---- the bytes
@@ -76,7 +77,15 @@ pub fn node_of(nodes: &[u32], count: usize, stamp: u32) -> usize
 }
 
 // Whether the map says that the transaction wrote the item.
-pub fn wrote(keys: &[u64], next: &[usize], head: &[usize], vals: &[u64], n: usize, stamp: u32, item: u8) -> bool
+pub fn wrote(
+    keys: &[u64],
+    next: &[usize],
+    head: &[usize],
+    vals: &[u64],
+    n: usize,
+    stamp: u32,
+    item: u8,
+) -> bool
     requires { ⌜ Table (now keys) (now next) (now head) (now vals) n ⌝ }
     ensures { λ r. ⌜ r ≡ differ (wroteIn (now (keys .entry)) (now (vals .entry)) n stamp item) 0 ⌝ }
 {
@@ -139,7 +148,19 @@ fn note_all(
     let mut i: usize = 0;
     while i < number {
         let stamp = be32(order, at + 4 * i);
-        if note(keys, next, head, vals, n, nodes, count, item, stamp, (i + 1) as u16, rank) {
+        if note(
+            keys,
+            next,
+            head,
+            vals,
+            n,
+            nodes,
+            count,
+            item,
+            stamp,
+            (i + 1) as u16,
+            rank,
+        ) {
             i += 1;
         } else {
             return false;
@@ -165,7 +186,15 @@ fn gap(
     ensures { λ r. ⌜ r ≡ gapAt (wroteIn (now (keys .entry)) (now (vals .entry)) n) (now (nodes .entry)) (now (rank .entry)) cell ⌝ }
 {
     if rank[cell] == 0 {
-        return wrote(keys, next, head, vals, n, nodes[cell / ITEMS], (cell % ITEMS) as u8);
+        return wrote(
+            keys,
+            next,
+            head,
+            vals,
+            n,
+            nodes[cell / ITEMS],
+            (cell % ITEMS) as u8,
+        );
     }
     false
 }
@@ -246,7 +275,20 @@ pub fn ranks(
         if MOST_ITEM < item {
             return false;
         }
-        if note_all(order, at + 4, number, keys, next, head, vals, n, nodes, count, item, rank) {
+        if note_all(
+            order,
+            at + 4,
+            number,
+            keys,
+            next,
+            head,
+            vals,
+            n,
+            nodes,
+            count,
+            item,
+            rank,
+        ) {
             least = item + 1;
             at = at + 4 + 4 * number;
         } else {

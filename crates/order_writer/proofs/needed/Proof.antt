@@ -17,7 +17,7 @@ use Rattle.order_writer.proofs.count_versions.Reads as count-versions-r
 use Rattle.order_writer.proofs.field_size.Reads as field-size-reads
 
 abbrev Inv-loop : tie.InvT-loop
-Inv-loop keys next head vals n nodes count size₀ item₀ size item = 
+Inv-loop keys next head vals n nodes count size₀ item₀ size item =
     (size + length (orderOf (fieldsUp (versionsBy (wroteIn keys vals n) (take count nodes)) (allItems - item) item)) ≡ length (orderBy (wroteIn keys vals n) (take count nodes))) × (item ≤ allItems) × (size ≤ item * 1028)
 
 abbrev μ-loop : tie.MeasureT-loop

@@ -16,7 +16,7 @@ use Rattle.order_writer.proofs.put_stamps.Lts as lts
 use Rattle.order_writer.proofs.put_if.Reads as put-if-reads
 
 abbrev Inv-loop : tie.InvT-loop
-Inv-loop keys next head vals n nodes count item out₀ at to₀ i₀ out to i = 
+Inv-loop keys next head vals n nodes count item out₀ at to₀ i₀ out to i =
     (Writing out₀ at (stampBytes (versionsBy (wroteIn keys vals n) (take count nodes) item)) (stampBytes (versionsBy (wroteIn keys vals n) (drop i (take count nodes)) item)) out to) × (i ≤ count)
 
 abbrev μ-loop : tie.MeasureT-loop

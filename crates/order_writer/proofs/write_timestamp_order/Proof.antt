@@ -19,7 +19,7 @@ use Rattle.order_writer.proofs.needed.Reads as needed-reads
 use Rattle.order_writer.proofs.put_field.Reads as put-field-reads
 
 abbrev Inv-loop : tie.InvT-loop
-Inv-loop keys next head vals n nodes count out₀ size at₀ item₀ out at item = 
+Inv-loop keys next head vals n nodes count out₀ size at₀ item₀ out at item =
     (Writing out₀ 0 (orderBy (wroteIn keys vals n) (take count nodes)) (orderOf (fieldsUp (versionsBy (wroteIn keys vals n) (take count nodes)) (allItems - item) item)) out at) × (item ≤ allItems)
 
 abbrev μ-loop : tie.MeasureT-loop
