@@ -3,3 +3,4 @@ pub mod WalkLaws
 pub mod PassedLaws
 pub mod SettleLaws
 pub mod NodesLaws
+pub mod JudgedLaws

@@ -3,8 +3,8 @@
 use Prim.Native.Nat.{ℕ, _≤_, _<_}
 use native.Mathlib.Omega.{arith}
 use mathlib.Core.Path.{_≡_, refl, sym, ap, _∙_, subst}
-use mathlib.Core.List.{List, [], _∷_, reverse}
-use mathlib.Core.Bool.{Bool, true, false, cond}
+use mathlib.Core.List.{List, [], reverse}
+use mathlib.Core.Bool.{true, false, cond}
 use lib.ListN.{length}
 use lib.Dec.{leb, ltb}
 use borrow.Author.Tests.{leb-true, lt-ltb, le-ltb}
@@ -19,18 +19,18 @@ use Rattle.log_format.proofs.Reading.{progress}
 use Rattle.log_format.proofs.WholeLaws.{both}
 use Rattle.history_rules.specs.WellFormed.{mostCommitted, countCommits}
 use Rattle.history_rules.specs.Faults.{stage}
-use Rattle.history_rules.specs.History.{Entry, fieldsFrom, eventsIn, wrong, right, scanned, History, passed, refused, dangling, settled, ended, historyOf}
+use Rattle.history_rules.specs.History.{Entry, fieldsFrom, eventsIn, right, History, passed, refused, dangling, settled, ended, historyOf}
 use Rattle.history_rules.specs.Held.{stageIn, Holds}
 use Rattle.history_rules.proofs.FieldSteps.{step-field, step-end, step-bad}
 use Rattle.history_rules.proofs.HeldLaws.{settled-same}
-use Rattle.index.specs.Index.{lookup, Table}
+use Rattle.index.specs.Index.{lookup}
 use Rattle.transactions.specs.Transactions.{stageBy}
 use Rattle.history.specs.declared.Verdict.{Verdict}
 use Rattle.history.specs.declared.Verdict.the-variants.{Passed, Refused}
 use Rattle.history.specs.declared.Judged.{Judged}
 use Rattle.history.specs.Judging.{answerOf, Lent, Walk, Walked, later, Judgement}
 use Rattle.history.proofs.OtherKinds.{NotPassed}
-use Rattle.history.proofs.PassedLaws.{scanned-all, PassedBy, history-headed, history-unheaded, passed-parts}
+use Rattle.history.proofs.PassedLaws.{scanned-all, history-headed, history-unheaded, passed-parts}
 
 -- ---- the second walk
 

@@ -16,13 +16,12 @@ use Rattle.log_format.specs.Fields.{decodeAt, found, NoField}
 use Rattle.log_format.specs.Whole.{maxLog}
 use Rattle.log_format.specs.Events.{Event, begins, reads, writes, commits, aborts, eventOf}
 use Rattle.log_format.specs.declared.Record.{Record}
-use Rattle.log_format.specs.declared.Place.{Place}
 use Rattle.log_format.specs.declared.Decoded.{Decoded}
 use Rattle.log_format.specs.declared.Decoded.the-variants.{Field, End, Bad}
 use Rattle.log_format.proofs.Reading.{progress}
 use Rattle.history_rules.specs.WellFormed.{mostItem, isCommit, countCommits}
-use Rattle.history_rules.specs.Faults.{idle, faultBy, fault, stage, written}
-use Rattle.history_rules.specs.History.{fieldsFrom, eventsIn, Scanned, wrong, right, scanned}
+use Rattle.history_rules.specs.Faults.{idle, faultBy, fault}
+use Rattle.history_rules.specs.History.{fieldsFrom, eventsIn, wrong, scanned}
 use Rattle.history_rules.specs.Held.{Holds, Kept}
 use Rattle.history_rules.proofs.FieldSteps.{step-field, step-end, step-bad}
 use Rattle.history_rules.proofs.HeldLaws.{holds-none, holds-more, fault-same}
@@ -30,7 +29,7 @@ use Rattle.index.specs.Index.{lookup, Table}
 use Rattle.index.proofs.RowLaws.{look-empty}
 use Rattle.transactions.specs.Transactions.{stageBy, writtenBy, Noted}
 use Rattle.history.specs.declared.Verdict.the-variants.{Refused}
-use Rattle.history.specs.Judging.{maxRows, Lent, stoppedWith, Walk, Walked}
+use Rattle.history.specs.Judging.{maxRows, Lent, stoppedWith, Walked}
 
 -- ---- a record without a fault can be noted
 

@@ -6,12 +6,13 @@ ghost use mathlib.Core.Path.{_≡_};
 ghost use Prim.Native.Nat.{_+_, _≤_};
 ghost use lib.ListN.{length, take};
 ghost use Rattle.lists.specs.Member.{Rising};
+ghost use Rattle.log_format.specs.Whole.{maxLog};
 ghost use Rattle.log_format.specs.Events.{eventOf};
 ghost use Rattle.history_rules.specs.WellFormed.{mostCommitted, isCommit, countCommits};
 ghost use Rattle.history_rules.specs.History.{eventsIn, fieldsFrom, dangling};
 ghost use Rattle.index.specs.Index.{Table};
 ghost use Rattle.transactions.specs.Transactions.{stageBy};
-ghost use Rattle.history.specs.Judging.{maxRows, stoppedWith, Lent, Walked, later, Judgement};
+ghost use Rattle.history.specs.Judging.{stoppedWith, Lent, Walked, later, Judgement};
 ghost use Rattle.history.specs.Nodes.{Passes, WithCommit, Nodes};
 use log_format::Decoded;
 use log_format::Place;
@@ -86,7 +87,7 @@ fn walk(
     head: &mut [usize],
     vals: &mut [u64],
 ) -> Judged
-    requires { ⌜ (Lent (now keys) (now next) (now head) (now vals)) × ((4 ≤ length (now log)) × (length (now log) ≤ 65536)) ⌝ }
+    requires { ⌜ (Lent (now keys) (now next) (now head) (now vals)) × ((4 ≤ length (now log)) × (length (now log) ≤ maxLog)) ⌝ }
     ensures { λ r. ⌜ Walked (now (log .entry)) (now (keys .exit)) (now (next .exit)) (now (head .exit)) (now (vals .exit)) r ⌝ }
 {
     let mut at: usize = Place::FIRST;

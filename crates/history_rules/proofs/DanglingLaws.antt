@@ -74,13 +74,13 @@ search test (r ∷ rs) = go (test r) refl (search test rs)
     go false e (somewhere before q after z h f) = somewhere (r ∷ before) q after (ap (λ t. r ∷ t) z) h (both e f)
 
 module _ (st : ℕ → ℕ) (a : History) where
-  -- records that do not dangle are passed
+  -- a record that dangles is refused
+  pub settle-stop : (p : ℕ) (r : Record) (fs : List Entry) → dangling st (eventOf r) ≡ true → settled st a (good p r ∷ fs) ≡ refused 27 p
+  unfolding settled
+  settle-stop p r fs e = rw e
+
+  -- those that do not are passed
   pub settle-pass : (rs : List Record) (at : ℕ) (fs : List Entry) → ((r : Record) → r ∈ rs → dangling st (eventOf r) ≡ false) → settled st a (placed at rs ++ fs) ≡ settled st a fs
   unfolding settled
   settle-pass [] at fs f = refl
   settle-pass (r ∷ rs) at fs f = rw (f r (List·Memᴰ·head refl)) (settle-pass rs (at + length (encode r)) fs (λ q m. f q (List·Memᴰ·tail m)))
-
-  -- one that does is refused
-  pub settle-stop : (p : ℕ) (r : Record) (fs : List Entry) → dangling st (eventOf r) ≡ true → settled st a (good p r ∷ fs) ≡ refused 27 p
-  unfolding settled
-  settle-stop p r fs e = rw e

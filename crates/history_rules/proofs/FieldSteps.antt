@@ -25,7 +25,7 @@ module _ (s : List ℕ) (b : Bytes s) where
       → ((n : ℕ) → length s - n < k → length s - n < m → fieldsAt k s n ≡ fieldsAt m s n) → (d : Decoded) → decodeAt s at ≡ d → following (fieldsAt k s) at d ≡ following (fieldsAt m s) at d
   same-following k m at h g ih (Field r p) e =
       let t = progress s b at r (p .0) e in
-      ap (λ l. good at r ∷ l) (ih (p .0) (omega arith) (omega arith))
+      rw (ih (p .0) (omega arith) (omega arith))
   same-following k m at h g ih End e = refl
   same-following k m at h g ih (Bad p) e = refl
 

@@ -11,3 +11,4 @@ pub mod HistoryLaws
 pub mod HeldLaws
 pub mod SmallLogsLaws
 pub mod NoneLaws
+pub mod AskedLaws

@@ -2,9 +2,7 @@
 // 25, and a record noted. Each asks the map at most four times and adds at most one row, so a log costs as many lookups as it has fields: near-linear in
 // its bytes, unless its stamps are chosen so that their keys share one bucket, where a lookup walks all rows.
 ghost use mathlib.Core.Path.{_≡_};
-ghost use mathlib.Core.Bool.{cond, _||_};
 ghost use lib.ListN.{length};
-ghost use lib.Dec.{eqb, ltb};
 ghost use Prim.Native.Nat.{_<_};
 ghost use Rattle.log_format.specs.Events.{begins, reads, writes, commits, eventOf};
 ghost use Rattle.history_rules.specs.Faults.{idle, unfit, unread, faultBy};

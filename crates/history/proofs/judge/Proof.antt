@@ -1,7 +1,7 @@
 -- Without the header it is 21; else the first walk's refusal is handed up, or the second walk decides.
 -- Assumes nothing.
 use mathlib.Core.Path.{_≡_, sym, _∙_}
-use mathlib.Core.Bool.{true, false}
+use mathlib.Core.Bool.{true}
 use Rattle.log_format.specs.Whole.{headerOk}
 use Rattle.log_format.proofs.Reading.{header-long}
 use Rattle.history.proofs.OtherKinds.{no-pass}
