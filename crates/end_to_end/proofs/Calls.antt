@@ -28,7 +28,7 @@ use Rattle.scheduler.specs.Calls.{roomOf, stateAfter, logAfter}
 use Rattle.scheduler.proofs.StateLaws.{abs-state}
 use Rattle.scheduler_laws.specs.Reach.{Fits32, dueTo, Reach, fresh, called}
 use Rattle.scheduler_laws.proofs.FromFresh.{never-damaged, length-is, log-tells}
-use Rattle.end_to_end.specs.Demand3.{Leaves}
+use Rattle.end_to_end.specs.NotEmptily.{Leaves}
 
 -- ---- a call is what the table says
 
@@ -89,6 +89,7 @@ abbrev pub turns : ℕ → List Event
 turns zero = []
 turns (suc n) = commits (suc n) ∷ begins (suc n) ∷ turns n
 
+-- the only open one ends
 close-one : (k : ℕ) → close k (k ∷ []) ≡ []
 close-one k = ite-by (λ (l : List ℕ). l ≡ []) (isnt (ℕ-discrete k k)) (λ n. absurd (n refl)) (λ _. refl)
 

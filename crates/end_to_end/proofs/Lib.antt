@@ -1,7 +1,8 @@
+pub mod Computed
 pub mod TimestampLaws
 pub mod RightLaws
 pub mod BytesLaws
 pub mod RisingEdges
-pub mod Calls
 pub mod Demand3Laws
+pub mod Calls
 pub mod NotEmptilyLaws

@@ -4,18 +4,15 @@
 -- Assumes nothing.
 use Prim.Native.Nat.{ℕ, zero, suc, _+_, _*_, _≤_, _<_, _^_}
 use native.Mathlib.Omega.{arith}
-use native.Mathlib.Decide.{ℕ-discrete, decLe, decLt}
 use mathlib.Core.Path.{_≡_, refl, ap, _∙_, subst}
 use mathlib.Core.List.{List, [], _∷_, reverse, reverseAux, List·Memᴰ·head, List·Memᴰ·tail}
 use mathlib.Core.Logic.{_≢_}
 use lib.ListN.{length}
-use Rattle.lists.specs.Choice.{pick, both, either, isnt}
-use Rattle.lists.specs.Member.{_∈_, memb, any?}
+use Rattle.lists.specs.Member.{_∈_}
 use Rattle.lists.proofs.OrderLaws.{in-nil}
 use Rattle.log_format.specs.Whole.{maxLog}
 use Rattle.log_format.specs.Events.{Event}
-use Rattle.scheduler_rules.specs.Model.{start, below, put}
-use Rattle.scheduler_rules.specs.Table.{good?, due, fine, table}
+use Rattle.scheduler_rules.specs.Model.{start}
 use Rattle.scheduler_rules.specs.Run.{play}
 use Rattle.scheduler_rules.specs.declared.Op.{Op}
 use Rattle.scheduler.specs.declared.State.{State}
@@ -24,16 +21,15 @@ use Rattle.scheduler_laws.specs.Reach.{Fits32, Reach}
 use Rattle.history_rules.specs.WellFormed.{countCommits}
 use Rattle.graph_theory.specs.Verdict.{Verdict, accepted, cycle, Accepts}
 use Rattle.serial_theory.specs.Edges.{VersionOrder}
-use Rattle.serial_theory.specs.EdgeTest.{edge}
 use Rattle.serial_theory.specs.Judged.{committed, verdict, Judged}
 use Rattle.serial_theory.specs.Cases.{logA}
 use Rattle.serial_theory.proofs.RegularLaws.{regular}
 use Rattle.serial_theory.proofs.CommittedLaws.{committed-number}
-use Rattle.serial_theory.proofs.EdgeLaws.{edge-true}
 use Rattle.serial_theory.proofs.JudgedLaws.{verdict-judged}
 use Rattle.serial_theory.proofs.CaseA.{case-a}
-use Rattle.end_to_end.specs.TimestampOrder.{puts?, timestampVersions}
-use Rattle.end_to_end.specs.Demand3.{told, InTimestampOrder, Leaves, LeavesCommitted, outOfTurn, outOfTurnLog, NotEmptily}
+use Rattle.end_to_end.specs.Demand3.{told, InTimestampOrder}
+use Rattle.end_to_end.specs.NotEmptily.{Leaves, LeavesCommitted, outOfTurn, outOfTurnLog, NotEmptily}
+use Rattle.end_to_end.proofs.Computed.{out-of-turn, A-cycle}
 use Rattle.end_to_end.proofs.Calls.{any-run, turns, turns-left}
 use Rattle.end_to_end.proofs.Demand3Laws.{demand3}
 
@@ -56,10 +52,6 @@ any-number n b₀ h l =
 
 -- ---- a run with edges
 
-played : (play maxLog outOfTurn start) .written ≡ outOfTurnLog
-unfolding pick table fine due good? memb both either isnt any? below put decLe decLt ℕ-discrete
-played = refl
-
 -- operations whose numbers are small in all are small each
 abbrev weight : List Op → ℕ
 weight [] = 0
@@ -70,10 +62,10 @@ light [] h op m = in-nil m
 light (p ∷ ops) h op (List·Memᴰ·head e) = rw e (record { kind = omega arith; stamp = omega arith; item = omega arith; value = omega arith })
 light (p ∷ ops) h op (List·Memᴰ·tail m) = light ops (omega arith) op m
 
-out-of-turn : (b₀ : List ℕ) → maxLog ≤ length b₀ → Leaves b₀ outOfTurnLog
-out-of-turn b₀ h =
+with-edges : (b₀ : List ℕ) → maxLog ≤ length b₀ → Leaves b₀ outOfTurnLog
+with-edges b₀ h =
     let e : roomOf b₀ ≡ maxLog = omega arith in
-    subst (Leaves b₀) (ap (λ (n : ℕ). (play n outOfTurn start) .written) e ∙ played) (any-run b₀ (omega arith) outOfTurn (light outOfTurn (omega arith)))
+    subst (Leaves b₀) (ap (λ (n : ℕ). (play n outOfTurn start) .written) e ∙ out-of-turn .written) (any-run b₀ (omega arith) outOfTurn (light outOfTurn (omega arith)))
 
 -- ---- case A
 
@@ -89,15 +81,12 @@ A-not-left : (b₀ : List ℕ) (s : State) (b : List ℕ) (es : List Event) → 
 A-not-left b₀ s b es r e = case-a .not-serial (committed logA) ((subst InTimestampOrder e ((demand3 r) .ordered)) .serial)
 
 pub not-emptily : NotEmptily
-unfolding verdict edge committed timestampVersions puts? both ℕ-discrete
 not-emptily = record {
   any-run = any-run;
   any-number = any-number;
-  out-of-turn = out-of-turn;
-  by-stamp = refl;
-  drawn = (edge-true outOfTurnLog (timestampVersions outOfTurnLog) 1 2 refl, edge-true outOfTurnLog (timestampVersions outOfTurnLog) 2 3 refl);
+  with-edges = with-edges;
   A-not-serial = case-a .not-serial;
   A-not-accepted = A-not-accepted;
-  A-cycle = refl;
+  A-cycle = A-cycle;
   A-not-left = A-not-left;
 }
