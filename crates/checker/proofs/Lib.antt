@@ -1,2 +1,5 @@
 pub mod ReadLaws
 pub mod OrderedLaws
+pub mod RankedLaws
+pub mod GraphLaws
+pub mod CheckedLaws

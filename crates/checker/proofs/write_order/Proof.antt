@@ -5,68 +5,49 @@ use Rattle.checker.proofs.ReadLaws.{lent, refused-is, passed-read}
 use borrow.Author.Needs.{needs}
 use Rattle.checker.proofs.write_order.Statement.{statement}
 use Rattle.checker.proofs.write_order.Tie as tie
-use Rattle.checker.proofs.write_order.Reads as reads
-use Rattle.checker.proofs.write_order.Lts as lts
-use Rattle.checker.proofs.order_read.Reads as order-read-reads
-use Rattle.history.proofs.judge.Reads as judge-reads
 
--- src/lib.rt:43:33
 slice-aggregate-judge : tie.Need-slice-aggregate-judge
 slice-aggregate-judge c = search needs
 
--- src/lib.rt:43:44
 slice-aggregate-judge-2 : tie.Need-slice-aggregate-judge-2
 slice-aggregate-judge-2 c = search needs
 
--- src/lib.rt:43:55
 slice-aggregate-judge-3 : tie.Need-slice-aggregate-judge-3
 slice-aggregate-judge-3 c = search needs
 
--- src/lib.rt:43:66
 slice-aggregate-judge-4 : tie.Need-slice-aggregate-judge-4
 slice-aggregate-judge-4 c = search needs
 
--- src/lib.rt:43:9
 judge-requires : tie.Need-judge-requires
 judge-requires c κs = lent
 
--- src/lib.rt:47:26
 enum-known-v : tie.Need-enum-known-v
 enum-known-v c = search needs
 
--- src/lib.rt:48:47
 enum-told : tie.Need-enum-told
 enum-told c = search needs
 
--- src/lib.rt:48:47
 slice-aggregate-order-read : tie.Need-slice-aggregate-order-read
 slice-aggregate-order-read c = search needs
 
--- src/lib.rt:48:54
 slice-aggregate-order-read-2 : tie.Need-slice-aggregate-order-read-2
 slice-aggregate-order-read-2 c = search needs
 
--- src/lib.rt:48:61
 slice-aggregate-order-read-3 : tie.Need-slice-aggregate-order-read-3
 slice-aggregate-order-read-3 c = search needs
 
--- src/lib.rt:48:68
 slice-aggregate-order-read-4 : tie.Need-slice-aggregate-order-read-4
 slice-aggregate-order-read-4 c = search needs
 
--- src/lib.rt:48:31
 order-read-requires : tie.Need-order-read-requires
 order-read-requires c κs = passed-read (c .before .before .before .before .before .before .before .before .before .before .before .judge .ensures) _ (c .before .before .before .before .before .enum-told .given .1)
 
--- src/lib.rt:36:1
 returns : tie.Need-returns
 returns c = history-refused _ _ _ _ (refused-is (c .before .before .before .before .before .before .before .judge .ensures) _ _ (c .before .v .given .1))
 
--- src/lib.rt:36:1
 same-length : tie.Need-same-length
 same-length c = search needs
 
--- src/lib.rt:36:1
 returns-2 : tie.Need-returns-2
 returns-2 c = search needs
 
