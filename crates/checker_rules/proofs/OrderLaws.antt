@@ -30,7 +30,7 @@ module _ (log b : List ℕ) where
     room-refused l = refusal 29 0 (rw (h, lt-ltb _ _ l))
 
     -- 0
-    written : length (timestampOrder es) ≤ length b → orderFor log (length b) ≡ wrote (timestampOrder es)
+    pub written : length (timestampOrder es) ≤ length b → orderFor log (length b) ≡ wrote (timestampOrder es)
     unfolding orderFor
     written l = rw (h, le-ltb _ _ l)
 

@@ -26,11 +26,11 @@ module _ {b₀ : List ℕ} {s : State} {b : List ℕ} {es : List Event} (r : Rea
   well-formed : countCommits (told s b) ≤ mostCommitted → WellFormed (told s b)
   well-formed few = record { right = ordered .regular .right; few = few; from = ordered .regular .from }
 
-  are-bytes : Bytes (take (usedOf s) b)
+  pub are-bytes : Bytes (take (usedOf s) b)
   are-bytes = rw (log-is r) (lawful-bytes es (events-lawful (model-is-reached r)))
 
   -- what is told are the events of the records read
-  told-is : told s b ≡ map eventOf (oldestFirst es)
+  pub told-is : told s b ≡ map eventOf (oldestFirst es)
   unfolding events
   told-is = ap eventsOf (log-reads r)
 

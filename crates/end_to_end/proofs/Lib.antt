@@ -6,3 +6,4 @@ pub mod RisingEdges
 pub mod Demand3Laws
 pub mod Calls
 pub mod NotEmptilyLaws
+pub mod CheckedLaws

@@ -1,3 +1,4 @@
 pub mod TimestampOrder
 pub mod Demand3
 pub mod NotEmptily
+pub mod Checked
