@@ -9,7 +9,7 @@ use order_rules::Written;
 ghost use mathlib.Core.Path.{_≡_};
 ghost use Prim.Native.Nat.{_*_, _≤_};
 ghost use lib.ListN.{length};
-ghost use Rattle.checker_rules.specs.Answers.{CheckIs};
+ghost use Rattle.checker_rules.specs.Answers.{CheckIs, PanelIs, Small, returned};
 ghost use Rattle.checker_rules.specs.Orders.{OrderIs};
 ghost use Rattle.drawing.specs.Drawing.{Tables};
 ghost use Rattle.checker.specs.Reads.{ReadLog, GraphIs};
@@ -127,4 +127,27 @@ pub fn check(log: &[u8], order: &[u8], answer: &mut [u8]) -> Checked
         Verdict::Refused(code, place) => Checked::Refused(code, place),
         Verdict::Passed(_) => check_read(log, order, &keys, &next, &head, &vals, rows, answer),
     }
+}
+
+// ---- the C call
+
+// Code times 65,536 plus number.
+fn one_number(c: Checked) -> u32
+    requires { ⌜ Small c ⌝ }
+    ensures { λ r. ⌜ r ≡ returned c ⌝ }
+{
+    match c {
+        Checked::Accepted(n) => n as u32,
+        Checked::Cycle(n) => 30 * 65536 + n as u32,
+        Checked::Refused(code, place) => code * 65536 + place.0 as u32,
+    }
+}
+
+// The check as the C program on the mill's panel calls it: one number, and the buffer as `check` leaves it.
+#[no_mangle]
+pub extern "C" fn svelmings_check(log: &[u8], order: &[u8], answer: &mut [u8]) -> u32
+    ensures { λ r. ⌜ PanelIs (now (log .entry)) (now (order .entry)) (now (answer .entry)) r (now (answer .exit)) ⌝ }
+{
+    let c = check(log, order, answer);
+    one_number(c)
 }

@@ -1,3 +1,4 @@
 pub mod CheckLaws
 pub mod VerdictLaws
 pub mod OrderLaws
+pub mod PanelLaws

@@ -1,6 +1,6 @@
 -- The checker's answer for a log, a version order and a buffer: the page's codes in their order, their numbers, and the stamps written.
 -- Assumes nothing.
-use Prim.Native.Nat.{ℕ, _*_}
+use Prim.Native.Nat.{ℕ, _+_, _*_, _≤_, _<_}
 use mathlib.Core.Path.{_≡_}
 use mathlib.Core.List.{List, [], _∷_}
 use mathlib.Core.Bool.{cond}
@@ -61,4 +61,20 @@ checkedNumber (Refused c p) = p .0
 -- checking a log and an order with the buffer b answers r and leaves b′: the stamps at its front, every other byte as it was
 pub record CheckIs (log order b : List ℕ) (r : Checked) (b′ : List ℕ) : Type 0 where
   pub answer : r ≡ checkedOf (answerFor log order (length b))
+  pub bytes : b′ ≡ splice b 0 (stampBytes (stampsFor (answerFor log order (length b))))
+
+-- ---- the C call
+
+-- code times 65,536 plus number
+abbrev pub returned : Checked → ℕ
+returned r = checkedCode r * 65536 + checkedNumber r
+
+-- a code and a number that can be told apart again
+pub record Small (r : Checked) : Type 0 where
+  pub code : checkedCode r ≤ 30
+  pub number : checkedNumber r < 65536
+
+-- the C call answers one number for what checking answers, and leaves the same b′
+pub record PanelIs (log order b : List ℕ) (r : ℕ) (b′ : List ℕ) : Type 0 where
+  pub answer : r ≡ returned (checkedOf (answerFor log order (length b)))
   pub bytes : b′ ≡ splice b 0 (stampBytes (stampsFor (answerFor log order (length b))))

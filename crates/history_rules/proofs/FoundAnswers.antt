@@ -122,7 +122,7 @@ header-or-not s = go (headerOk s) refl
     go false e = fails (λ h. false≢true (sym e ∙ is-header s (h .0) (h .1)))
 
 -- a log that is read has its header
-read-headed : (s : List ℕ) (rs : List Record) → logRead s ≡ records rs → Headed s
+pub read-headed : (s : List ℕ) (rs : List Record) → logRead s ≡ records rs → Headed s
 unfolding logRead
 read-headed s rs e = go (header-or-not s) e
   where

@@ -35,7 +35,7 @@ use Rattle.history_rules.proofs.FoundAnswers.{header-or-not, seen, of-m
 
 -- ---- records of a log, and those before one of them
 
-writeAll-append : (a c : List Record) → writeAll (a ++ c) ≡ writeAll a ++ writeAll c
+pub writeAll-append : (a c : List Record) → writeAll (a ++ c) ≡ writeAll a ++ writeAll c
 writeAll-append [] c = refl
 writeAll-append (r ∷ a) c = rw (writeAll-append a c) (sym (append-assoc (encode r) (writeAll a) (writeAll c)))
 

@@ -75,44 +75,44 @@ module _ (s : List ℕ) (b : Bytes s) where
   -- what holds of each refusal that the page gives, holds of the checker's
   module _ (Q : ℕ → ℕ → Type 0)
       (q21 : ¬ Headed s → Q 21 0)
-      (q22-25 : (c p : ℕ) → FirstBadField s c p → Q c p)
+      (q22-25 : (c p : ℕ) → Headed s → FirstBadField s c p → Q c p)
       (q26 : (rs : List Record) → logRead s ≡ records rs → AllRight [] (map eventOf rs) → mostCommitted < countCommits (map eventOf rs) → Q 26 0)
       (q27 : (rs : List Record) (p : ℕ) → logRead s ≡ records rs → FirstDangling rs p → Q 27 p) where
     each : (h : History) → Answers s h → OfRefusal Q h
     each h (no-log n) = q21 n
-    each h (bad-field c p hd f) = q22-25 c p f
+    each h (bad-field c p hd f) = q22-25 c p hd f
     each h (too-many rs r ok m) = q26 rs r ok m
     each h (dangling rs p r ok few f) = q27 rs p r f
     each h (well rs r w) = tt
 
-    refusal : (c p : ℕ) → historyOf s ≡ refused c p → Q c p
+    pub refusal : (c p : ℕ) → historyOf s ≡ refused c p → Q c p
     refusal c p e = subst (OfRefusal Q) e (each (historyOf s) (history-answers s b))
 
   -- there are no other codes
   pub refused-codes : (c p : ℕ) → historyOf s ≡ refused c p → (21 ≤ c) × (c ≤ 27)
   refused-codes = refusal (λ c p. (21 ≤ c) × (c ≤ 27)) (λ n. (omega arith, omega arith))
-      (λ c p f. let w = bad-codes (f .bad) in (omega arith, omega arith)) (λ rs r ok m. (omega arith, omega arith)) (λ rs p r f. (omega arith, omega arith))
+      (λ c p hd f. let w = bad-codes (f .bad) in (omega arith, omega arith)) (λ rs r ok m. (omega arith, omega arith)) (λ rs p r f. (omega arith, omega arith))
 
   -- 21: the log has no header, or is too long
   pub says-21 : (c p : ℕ) → historyOf s ≡ refused c p → c ≡ 21 → (¬ Headed s) × (p ≡ 0)
   says-21 = refusal (λ c p. c ≡ 21 → (¬ Headed s) × (p ≡ 0)) (λ n e. (n, refl))
-      (λ c p f e. let w = bad-codes (f .bad) in absurd (omega arith)) (λ rs r ok m e. absurd (omega arith)) (λ rs p r f e. absurd (omega arith))
+      (λ c p hd f e. let w = bad-codes (f .bad) in absurd (omega arith)) (λ rs r ok m e. absurd (omega arith)) (λ rs p r f e. absurd (omega arith))
 
   -- 22 to 25: the field at that place is the first bad one, and the code its lowest
   pub says-22-25 : (c p : ℕ) → historyOf s ≡ refused c p → 22 ≤ c → c ≤ 25 → FirstBadField s c p
   says-22-25 = refusal (λ c p. 22 ≤ c → c ≤ 25 → FirstBadField s c p) (λ n l m. absurd (omega arith))
-      (λ c p f l m. f) (λ rs r ok m l k. absurd (omega arith)) (λ rs p r f l k. absurd (omega arith))
+      (λ c p hd f l m. f) (λ rs r ok m l k. absurd (omega arith)) (λ rs p r f l k. absurd (omega arith))
 
   -- 26: all fields are right, and over 256 transactions commit
   pub says-26 : (c p : ℕ) → historyOf s ≡ refused c p → c ≡ 26 → (p ≡ 0) × AllRight [] (events s) × (mostCommitted < countCommits (events s))
   unfolding events
   says-26 = refusal (λ c p. c ≡ 26 → (p ≡ 0) × AllRight [] (eventsOf (logRead s)) × (mostCommitted < countCommits (eventsOf (logRead s)))) (λ n e. absurd (omega arith))
-      (λ c p f e. let w = bad-codes (f .bad) in absurd (omega arith)) (λ rs r ok m e. (refl, rw r ok, rw r m)) (λ rs p r f e. absurd (omega arith))
+      (λ c p hd f e. let w = bad-codes (f .bad) in absurd (omega arith)) (λ rs r ok m e. (refl, rw r ok, rw r m)) (λ rs p r f e. absurd (omega arith))
 
   -- 27: the read at that place is the first of a committed transaction from one that never commits
   pub says-27 : (c p : ℕ) → historyOf s ≡ refused c p → c ≡ 27 → (rs : List Record) × (logRead s ≡ records rs) × FirstDangling rs p
   says-27 = refusal (λ c p. c ≡ 27 → (rs : List Record) × (logRead s ≡ records rs) × FirstDangling rs p) (λ n e. absurd (omega arith))
-      (λ c p f e. let w = bad-codes (f .bad) in absurd (omega arith)) (λ rs r ok m e. absurd (omega arith)) (λ rs p r f e. (rs, r, f))
+      (λ c p hd f e. let w = bad-codes (f .bad) in absurd (omega arith)) (λ rs r ok m e. absurd (omega arith)) (λ rs p r f e. (rs, r, f))
 
   -- ---- which goes first
 

@@ -12,3 +12,4 @@ pub mod HeldLaws
 pub mod SmallLogsLaws
 pub mod NoneLaws
 pub mod AskedLaws
+pub mod PlaceLaws
