@@ -1,10 +1,10 @@
--- `check_log::stamps` is safe and ends: a stamp is read only where there is room for it, and what is left to print falls at each turn.
+-- `verdict_line::stamps` is safe and ends: a stamp is read only where there is room for it, and what is left to print falls at each turn.
 -- Assumes nothing.
 use borrow.Author.Needs.{needs}
 use native.Mathlib.Omega.{arith}
 use Prim.Native.Nat.{_≤_, _-_}
-use Rattle.check_log.proofs.stamps.Statement.{statement}
-use Rattle.check_log.proofs.stamps.Tie as tie
+use Rattle.verdict_line.proofs.stamps.Statement.{statement}
+use Rattle.verdict_line.proofs.stamps.Tie as tie
 
 abbrev Inv-loop : tie.InvT-loop
 Inv-loop answer n room i₀ i = i ≤ n

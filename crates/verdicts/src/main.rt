@@ -1,0 +1,237 @@
+// The checker at its limits: logs of 65,536 and 65,537 bytes, 256 and 257 committed, an answer one byte too short, a cycle of 200
+// transactions, dense graphs of 256. The expected output is written by hand from document 01.
+use libc::STDOUT_FILENO;
+use log_format::Added;
+use log_format::Place;
+use log_format::Record;
+use log_format::Stamp;
+
+// The verdict on the first bytes of a log and an order, under a name.
+fn judged(name: &[u8], log: &[u8], used: usize, order: &[u8], n: usize, answer: &mut [u8]) {
+    io::write_all(STDOUT_FILENO, name);
+    if used <= log.len() {
+        if n <= order.len() {
+            let c = checker::check(&log[..used], &order[..n], answer);
+            verdict_line::print(c, answer);
+        }
+    }
+}
+
+// ---- logs
+
+// The bytes used with one record more.
+fn add(log: &mut [u8], used: usize, r: Record) -> usize {
+    let a = log_writer::append(log, Place(used), r);
+    match a {
+        Added::Done(p) => p.0,
+        Added::BadCause => used,
+        Added::NoRoom => used,
+    }
+}
+
+fn read(log: &mut [u8], used: usize, k: u32, item: u8, j: u32) -> usize {
+    let stamp = Stamp(k);
+    let version = Stamp(j);
+    add(
+        log,
+        used,
+        Record::Read {
+            stamp,
+            item,
+            version,
+            value: j,
+        },
+    )
+}
+
+// A write of the writer's own stamp.
+fn write(log: &mut [u8], used: usize, k: u32, item: u8) -> usize {
+    let stamp = Stamp(k);
+    add(
+        log,
+        used,
+        Record::Write {
+            stamp,
+            item,
+            value: k,
+        },
+    )
+}
+
+// The header, and begins of the stamps from 1 to n.
+fn begins(log: &mut [u8], n: u32) -> usize {
+    log_writer::write_header(log);
+    let mut used: usize = 4;
+    let mut k: u32 = 0;
+    while k < n {
+        k += 1;
+        used = add(log, used, Record::Begin(Stamp(k)));
+    }
+    used
+}
+
+fn commits(log: &mut [u8], from: usize, n: u32) -> usize {
+    let mut used = from;
+    let mut k: u32 = 0;
+    while k < n {
+        k += 1;
+        used = add(log, used, Record::Commit(Stamp(k)));
+    }
+    used
+}
+
+// Each of the stamps from 1 to n reads item 0 from the one before it, and writes it.
+fn handed_on(log: &mut [u8], from: usize, n: u32) -> usize {
+    let mut used = from;
+    let mut k: u32 = 0;
+    while k < n {
+        used = read(log, used, k + 1, 0, k);
+        k += 1;
+        used = write(log, used, k, 0);
+    }
+    used
+}
+
+// The stamp 2k writes item 0, and the one below it reads that version.
+fn pair(log: &mut [u8], used: usize, k: u32) -> usize {
+    if 0 < k {
+        if k < 65536 {
+            let wrote = write(log, used, 2 * k, 0);
+            return read(log, wrote, 2 * k - 1, 0, 2 * k);
+        }
+    }
+    used
+}
+
+// Each even stamp from 2 to 2n is paired with the odd one below it.
+fn pairs(log: &mut [u8], from: usize, n: u32) -> usize {
+    let mut used = from;
+    let mut k: u32 = 0;
+    while k < n {
+        k += 1;
+        used = pair(log, used, k);
+    }
+    used
+}
+
+// ---- version orders
+
+fn put(order: &mut [u8], at: usize, b: u8) {
+    if at < order.len() {
+        order[at] = b;
+    }
+}
+
+// A number of two bytes, high byte first.
+fn put_two(order: &mut [u8], at: usize, n: u32) {
+    if at < 65536 {
+        put(order, at, (n / 256 % 256) as u8);
+        put(order, at + 1, (n % 256) as u8);
+    }
+}
+
+// A stamp below 65,536 as the k-th from a place on.
+fn put_stamp(order: &mut [u8], from: usize, k: usize, s: u32) {
+    if from < 4096 {
+        if k < 4096 {
+            put_two(order, from + 4 * k, 0);
+            put_two(order, from + 4 * k + 2, s);
+        }
+    }
+}
+
+fn down(s: u32, step: u32) -> u32 {
+    if step <= s { s - step } else { 0 }
+}
+
+// n stamps from a place on: the first one, and each further one a step down.
+fn falling(order: &mut [u8], from: usize, first: u32, step: u32, n: usize) {
+    let mut s = first;
+    let mut k: usize = 0;
+    while k < n {
+        put_stamp(order, from, k, s);
+        s = down(s, step);
+        k += 1;
+    }
+}
+
+// ---- the cases
+
+// A header and then zeros: a byte over the limit is seen first, then the unknown tag 0.
+fn long_logs() {
+    let mut log = [0u8; 65537];
+    let mut answer = [0u8; 1024];
+    log_writer::write_header(&mut log);
+    judged(b"65537 bytes: ", &log, 65537, b"", 0, &mut answer);
+    judged(b"65536 bytes: ", &log, 65536, b"", 0, &mut answer);
+}
+
+// n transactions begin and commit.
+fn committed(name: &[u8], n: u32, answer: &mut [u8]) {
+    let mut log = [0u8; 4096];
+    let begun = begins(&mut log, n);
+    let used = commits(&mut log, begun, n);
+    judged(name, &log, used, b"", 0, answer);
+}
+
+// 200 before 199 before 198, down to 1, and 1 before 200, which reads what 1 wrote.
+fn cycle_of_200() {
+    let mut log = [0u8; 8192];
+    let mut answer = [0u8; 1024];
+    let begun = begins(&mut log, 200);
+    let paired = pairs(&mut log, begun, 100);
+    let wrote = write(&mut log, paired, 1, 1);
+    let closed = read(&mut log, wrote, 200, 1, 1);
+    let used = commits(&mut log, closed, 200);
+    let mut order = [0u8; 412];
+    put(&mut order, 0, 32);
+    put_two(&mut order, 1, 401);
+    falling(&mut order, 4, 200, 2, 100);
+    put(&mut order, 404, 32);
+    put_two(&mut order, 405, 5);
+    put(&mut order, 407, 1);
+    falling(&mut order, 408, 1, 1, 1);
+    judged(b"cycle of 200: ", &log, used, &order, 412, &mut answer);
+}
+
+// Each of 256 transactions writes item 0 and reads it from the one before: under the order of their stamps an edge leads from each to
+// each later one. Under the falling order the first reads from version 0, so an edge leads from 1 to all, and from 3 to 1.
+fn dense() {
+    let mut log = [0u8; 16384];
+    let mut answer = [0u8; 1024];
+    let begun = begins(&mut log, 256);
+    let wrote = handed_on(&mut log, begun, 256);
+    let used = commits(&mut log, wrote, 256);
+    let mut order = [0u8; 1028];
+    put(&mut order, 0, 32);
+    put_two(&mut order, 1, 1025);
+    falling(&mut order, 4, 256, 1, 256);
+    judged(
+        b"dense, falling order: ",
+        &log,
+        used,
+        &order,
+        1028,
+        &mut answer,
+    );
+    rising(&log, used, &mut order, &mut answer);
+}
+
+// The log under its timestamp order.
+fn rising(log: &[u8], used: usize, order: &mut [u8], answer: &mut [u8]) {
+    if used <= log.len() {
+        checker::write_order(&log[..used], order);
+        judged(b"dense, rising order: ", log, used, order, 1028, answer);
+    }
+}
+
+fn main() {
+    long_logs();
+    let mut answer = [0u8; 1024];
+    let mut short = [0u8; 1023];
+    committed(b"256 committed: ", 256, &mut answer);
+    committed(b"256 committed, 1023 bytes: ", 256, &mut short);
+    committed(b"257 committed: ", 257, &mut answer);
+    cycle_of_200();
+    dense();
+}
