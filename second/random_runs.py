@@ -59,6 +59,30 @@ class Lines:
         return line.encode()
 
 
+class LongLines(Lines):
+    """Random lines that keep about so many transactions open, for as long as it goes."""
+
+    def __init__(self, rng):
+        super().__init__(rng)
+        self.items = rng.choice([2, 5, 20, 64, 64])
+        self.recent = 40
+        self.most = rng.choice([3, 12, 31, 34])
+
+    def line(self):
+        if not self.likely_open:
+            return self.begin().encode()
+        if len(self.likely_open) > self.most:
+            return self.end(self.rng.choice(["commit", "commit", "abort"])).encode()
+        return super().line()
+
+
+def random_long_run(seed):
+    """An input of the run program that comes near the log's end, and mostly to it."""
+    rng = Random(f"long run {seed}")
+    lines = LongLines(rng)
+    return b"\n".join(lines.line() for _ in range(rng.choice([3000, 6000, 9000]))) + b"\n"
+
+
 def random_run(seed):
     """An input of the run program."""
     rng = Random(f"run {seed}")

@@ -17,6 +17,39 @@ def whole_state(rng):
     return words(last, opens, versions, marks, rng.choice([4, 50, 100, 185, 190, 195, 200]))
 
 
+def large_state(rng):
+    """A state that is not damaged with a buffer of 400 bytes: many are open, many versions are held, often all 32 or 1,024."""
+    last = rng.choice([40, 100, 4294967295])
+    stamps = rng.sample(range(1, last + 1), 40)
+    opens = sorted(rng.sample(stamps, rng.choice([0, 1, 8, 31, 32, 32])))
+    places = [(item, stamp) for item in range(64) for stamp in stamps]
+    held = sorted(rng.sample(places, rng.choice([64, 500, 1023, 1024, 1024])))
+    near = [0, 0, *stamps]
+    versions = [(*place, rng.randrange(4294967296), rng.choice(near)) for place in held]
+    marks = {item: rng.choice(near) for item in range(64)}
+    return words(last, opens, versions, marks, rng.choice([4, 100, 384, 388, 392, 393, 400]))
+
+
+def large_operation(rng, numbers):
+    """An operation of a stamp that is open in the state with these numbers, or of one above all."""
+    open_stamps = [stamp for stamp in numbers[OPEN:OPEN + 32] if stamp]
+    kind = rng.choice([1, 2, 2, 3, 3, 3, 4, 5])
+    if kind == 1 or not open_stamps:
+        return 1, min(numbers[0] + rng.randrange(3), 4294967295), 0, 0
+    item = rng.randrange(64) if kind in (2, 3) else 0
+    return kind, rng.choice(open_stamps), item, rng.randrange(9) if kind == 3 else 0
+
+
+def random_large_state(seed):
+    """A state's numbers, a tenth of them damaged in one place, a buffer and an operation."""
+    rng = Random(f"large state {seed}")
+    numbers = large_state(rng)
+    operation = large_operation(rng, numbers)
+    if rng.random() < 0.1:
+        numbers = changed(numbers, rng.randrange(LENGTH), rng.choice([0, 1, 64, 4294967295]))
+    return numbers, bytes([170]) * 400, operation
+
+
 def random_operation(rng, numbers):
     """An operation, mostly of a stamp that is open in the state with these numbers."""
     kind = rng.choice([1, 2, 2, 2, 3, 3, 3, 3, 4, 5])

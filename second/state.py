@@ -4,6 +4,7 @@ Any numbers at all can stand in a state; `damaged` tells which states no call
 works on. Its tables have a fixed number of places and a count.
 """
 
+from itertools import islice
 from operator import lt as less
 from typing import NamedTuple
 
@@ -139,14 +140,18 @@ def state_of_words(words):
     given = iter(words)
 
     def take(count):
-        return tuple(next(given) for _ in range(count))
+        return tuple(islice(given, count))
+
+    def take_versions():
+        numbers = take(4 * MAX_VERSIONS)
+        return tuple(map(Version, numbers[0::4], numbers[1::4], numbers[2::4], numbers[3::4]))
 
     return State(
         last_begun=next(given),
         open_count=next(given),
         open_table=take(MAX_OPEN),
         version_count=next(given),
-        version_table=tuple(Version(*take(4)) for _ in range(MAX_VERSIONS)),
+        version_table=take_versions(),
         initial_marks=take(MAX_ITEM + 1),
         used=next(given),
     )

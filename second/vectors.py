@@ -1,8 +1,8 @@
 """The inputs on which the two programs are compared.
 
 `fixed_runs`, `fixed_checks` and `fixed_calls` are the same each time; `random_runs`,
-`random_checks` and `random_calls` make one input from each seed, the same each time too. A
-random one's name tells its seed, and `named` gives any of them back by its name.
+`random_checks`, `random_calls` and those of large ones make one input from each seed, the same
+each time too. A random one's name tells its seed, and `named` gives any of them back by its name.
 
     python3 vectors.py                    prints all fixed names
     python3 vectors.py NAME               writes a run's input to standard output
@@ -16,8 +16,8 @@ import fixed_logs
 import fixed_runs as fixed_inputs
 import fixed_states
 from random_logs import random_check
-from random_runs import random_run
-from random_states import random_state
+from random_runs import random_long_run, random_run
+from random_states import random_large_state, random_state
 
 
 class Run(NamedTuple):
@@ -62,6 +62,10 @@ def random_runs(seeds):
     return (Run(f"random run {seed}", random_run(seed)) for seed in seeds)
 
 
+def random_long_runs(seeds):
+    return (Run(f"random long run {seed}", random_long_run(seed)) for seed in seeds)
+
+
 def random_checks(seeds):
     return (Check(f"random check {seed}", *random_check(seed)) for seed in seeds)
 
@@ -70,7 +74,12 @@ def random_calls(seeds):
     return (Call(f"random call {seed}", *random_state(seed)) for seed in seeds)
 
 
-RANDOM = {"run": random_runs, "check": random_checks, "call": random_calls}
+def random_large_calls(seeds):
+    return (Call(f"random large call {seed}", *random_large_state(seed)) for seed in seeds)
+
+
+RANDOM = {"run": random_runs, "long run": random_long_runs, "check": random_checks,
+          "call": random_calls, "large call": random_large_calls}
 
 
 def all_fixed():
@@ -79,9 +88,8 @@ def all_fixed():
 
 def named(name):
     """The vector of this name."""
-    first, *rest = name.split(" ")
-    if first == "random":
-        kind, seed = rest
+    if name.startswith("random "):
+        kind, seed = name.removeprefix("random ").rsplit(" ", 1)
         return next(iter(RANDOM[kind]([int(seed)])))
     return next(vector for vector in all_fixed() if vector.name == name)
 
