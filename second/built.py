@@ -34,6 +34,12 @@ def output_of(command, data=b""):
     return f"ended with {done.returncode}: {done.stderr[:2000].decode(errors='replace')}", done.stdout
 
 
+def lines_of(command, data):
+    """How the command ended, and the lines of its standard output."""
+    end, output = output_of(command, data)
+    return end, output.decode(errors="replace").splitlines()
+
+
 def build(command):
     """Runs a command that builds something, quietly unless it fails."""
     done = subprocess.run(command, cwd=ROOT, stdin=subprocess.DEVNULL, stdout=subprocess.PIPE,

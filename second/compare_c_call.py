@@ -62,10 +62,14 @@ def bytes_of(case):
     return front + case.log + case.order
 
 
+def number_told(number):
+    return f"{number}: code {number // 65536}, number {number % 65536}"
+
+
 def second_answer(case):
     answer = answer_filled(case.room, case.fill)
     number = c_call(case.log, case.order, answer)
-    return {"number": number, "other bytes": "unchanged", "answer": bytes(answer)}
+    return {"number": number_told(number), "other bytes": "unchanged", "answer": bytes(answer)}
 
 
 CHANGES = {1: "the log", 2: "the order", 4: "bytes beside a slice"}
@@ -84,7 +88,8 @@ def built_answer(output, place, case):
     number, = NUMBER.unpack_from(output, place)
     changed = output[place + NUMBER.size]
     answer = output[place + NUMBER.size + 1:end]
-    return {"number": number, "other bytes": changes_told(changed), "answer": answer}, end
+    return {"number": number_told(number), "other bytes": changes_told(changed),
+            "answer": answer}, end
 
 
 def judge_case(compared, case, output, place):
@@ -95,7 +100,7 @@ def judge_case(compared, case, output, place):
         built, place = built_answer(output, place, case)
         name = f"{case.name}, {side}"
         if built is None:
-            compared.judge(name, {"answer": "none"}, {"answer": second["number"]}, given)
+            compared.judge(name, {"number": "none"}, second, given)
             return None
         compared.judge(name, built, second, given)
         compared.counts["C calls"] += 1

@@ -1,22 +1,16 @@
 """Compares the scheduler's call with the second program on states of any numbers: reply, state and log buffer after the call, as
 the program `states` tells them."""
 
-from built import output_of, program
+from built import lines_of, program
 from differences import Compared
 from state_cases import bytes_of, case_of, line_of
-
-
-def built_lines(data):
-    """How the program ended, and its lines."""
-    end, output = output_of([program("states")], data)
-    return end, output.decode(errors="replace").splitlines()
 
 
 def compare(vectors):
     compared = Compared()
     cases = [case_of(vector) for vector in vectors]
     data = b"".join(map(bytes_of, cases))
-    end, printed = built_lines(data)
+    end, printed = lines_of([program("states")], data)
     compared.judge("states", {"end": end, "lines": len(printed)}, {
         "end": "ended well", "lines": len(cases)}, {"cases": data})
     for case, line in zip(cases, printed):

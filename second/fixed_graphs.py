@@ -65,30 +65,38 @@ def rings():
     yield "a path of 65, falling", *readers_of_zero(list(zip(range(65, 1, -1), range(64, 0, -1))))
 
 
-def chain(count, closed):
+def chain(count, closer=None):
     """Each transaction but the last reads X from the next larger and writes it, the order
-    falls: edges from each to all smaller ones. Closed by an edge from 1 to the last, it is
-    a cycle in which all stand."""
+    falls: edges from each to all smaller ones. Closed by an edge from one to the last, there
+    is a cycle in which it and all larger ones stand; the walk comes to it by all smaller ones."""
     stamps = list(range(count, 0, -1))
     fields = [begins(*stamps), write(count, X, count)]
     for stamp in stamps[1:]:
         fields += [read(stamp, X, stamp + 1, stamp + 1), write(stamp, X, stamp)]
-    if closed:
-        fields += [read(1, Y, 0, 0), write(count, Y, 1)]
-    order_fields = [(X, stamps)] + ([(Y, [count])] if closed else [])
+    if closer:
+        fields += [read(closer, Y, 0, 0), write(count, Y, 1)]
+    order_fields = [(X, stamps)] + ([(Y, [count])] if closer else [])
     return log(*fields, commits(*stamps)), order(*order_fields)
+
+
+def all_read_and_write(count):
+    """Each reads X from 0, then each writes it: edges from each to every other."""
+    stamps = range(1, count + 1)
+    reads = b"".join(read(stamp, X, 0, 0) for stamp in stamps)
+    writes = b"".join(write(stamp, X, stamp) for stamp in stamps)
+    return log(begins(*stamps), reads, writes, commits(*stamps)), order((X, stamps))
 
 
 def dense():
     """Graphs with many edges."""
-    yield "a cycle of 200", *chain(200, True)
-    yield "a cycle of 256", *chain(256, True)
-    yield "200 in a chain", *chain(200, False)
-    yield "256 in a chain", *chain(256, False)
-    all_read = log(begins(*range(1, 101)), b"".join(
-        read(stamp, X, 0, 0) for stamp in range(1, 101)), b"".join(
-        write(stamp, X, stamp) for stamp in range(1, 101)), commits(*range(1, 101)))
-    yield "100 read one item from 0 and write it", all_read, order((X, range(1, 101)))
+    yield "a cycle of 200", *chain(200, 1)
+    yield "a cycle of 256", *chain(256, 1)
+    yield "a cycle of 200 behind 56 others", *chain(256, 57)
+    yield "a cycle of two behind 254 others", *chain(256, 255)
+    yield "200 in a chain", *chain(200)
+    yield "256 in a chain", *chain(256)
+    for count in (100, 256):
+        yield f"{count} read one item from 0 and write it", *all_read_and_write(count)
     one_reader = log(begins(*range(1, 257)), b"".join(
         write(stamp, X, stamp) for stamp in range(1, 256)), commits(*range(1, 256)),
         read(256, X, 128, 128), commit(256))

@@ -201,6 +201,12 @@ WHOLE = {
     "every byte as the space": b"".join(
         b"begin" + bytes([byte]) + str(byte + 1).encode() + b"\n" for byte in range(256)),
     "3,000 empty lines": b"\n" * 3000,
+    "every part of each keyword": b"begin 5\n" + b"".join(
+        line[start:end] + rest + b"\n"
+        for line, rest in ((b"begin", b" 7"), (b"read", b" 5 1"), (b"write", b" 5 1 2"),
+                           (b"commit", b" 5"), (b"abort", b" 5"))
+        for start in range(len(line)) for end in range(start, len(line) + 1)
+        if end - start < len(line)),
 }
 
 

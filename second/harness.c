@@ -143,6 +143,7 @@ static void call(const struct input *input, int at_end)
     write_number(number);
     write_bytes(&changed, 1);
     write_bytes(answer_room.slice, answer_room.length);
+    fflush(stdout); /* what was answered is told even if the next call does not come back */
 }
 
 int main(void)
@@ -154,7 +155,6 @@ int main(void)
     while (next_input(&input)) {
         call(&input, 0);
         call(&input, 1);
-        fflush(stdout);
         free(input.log);
         free(input.order);
     }

@@ -73,3 +73,11 @@ def write_timestamp_order(log, buffer):
         return Answer(29, 0)
     buffer[:len(written)] = written
     return Answer(0, len(written))
+
+
+def timestamp_order_length(log):
+    """The length of the log's timestamp order, 0 where it has none."""
+    try:
+        return len(order_bytes(the_history.judged_history(log).committed_versions()))
+    except Refused:
+        return 0

@@ -7,13 +7,12 @@ A case is a run of numbers of four bytes, high byte first:
     then for each setting: place, number
 
 The places are those of the state's tables, one after the other: 32 open stamps, 64 initial marks, then 1,024 items, 1,024
-stamps, 1,024 values and 1,024 marks of the versions. A place without a setting is 0. Before the call the log buffer's byte i is
-7 i + 3, mod 256. The file ends after the last case. The line for a case has the numbers
+stamps, 1,024 values and 1,024 marks of the versions. A place without a setting is 0. The file ends after the last case. The line
+for a case has the numbers
 
     code stamp value last-begun used open-count version-count hash-of-tables hash-of-buffer
 
-of the reply, and of the state and the buffer after the call. The hash of a run of numbers starts at 1 and becomes, for each, itself
-times 31 plus the number, mod 4294967291.
+of the reply, and of the state and the buffer after the call; `told.py` has the hash, and the buffer before the call.
 """
 
 import struct
@@ -21,10 +20,7 @@ from typing import NamedTuple
 
 from scheduler import Operation, call
 from state import State, state_of_words
-
-HASH_START, HASH_FACTOR, HASH_MODULUS = 1, 31, 4294967291
-FRONT_NUMBERS = 10
-LOG_PATTERN = bytes((7 * at + 3) % 256 for at in range(256))
+from told import buffer_before, hash_of
 
 
 class Case(NamedTuple):
@@ -64,17 +60,6 @@ def bytes_of(case):
     """The case as the program reads it."""
     numbers = numbers_of(case)
     return struct.pack(f">{len(numbers)}I", *numbers)
-
-
-def buffer_before(length):
-    return bytearray((LOG_PATTERN * (length // 256 + 1))[:length])
-
-
-def hash_of(numbers):
-    told = HASH_START
-    for number in numbers:
-        told = (told * HASH_FACTOR + number) % HASH_MODULUS
-    return told
 
 
 def line_of(case):

@@ -3,6 +3,7 @@
 `fixed_runs`, `fixed_checks` and `fixed_calls` are the same each time; `random_runs`,
 `random_checks`, `random_calls` and those of large ones make one input from each seed, the same
 each time too. A random one's name tells its seed, and `named` gives any of them back by its name.
+The order call is put to the logs of the checks, by `fixed_orders` and `random_orders`.
 
     python3 vectors.py                    prints all fixed names
     python3 vectors.py NAME               writes a run's input to standard output
@@ -15,6 +16,7 @@ from typing import NamedTuple
 import fixed_logs
 import fixed_runs as fixed_inputs
 import fixed_states
+from order import timestamp_order_length
 from random_logs import random_check
 from random_runs import random_long_run, random_run
 from random_states import random_large_state, random_state
@@ -32,6 +34,13 @@ class Check(NamedTuple):
     name: str
     log: bytes
     order: bytes
+    room: int
+
+
+class Order(NamedTuple):
+    """A log for the order call, and its buffer's length."""
+    name: str
+    log: bytes
     room: int
 
 
@@ -53,6 +62,22 @@ def fixed_checks():
     return [Check(f"check: {name}", *rest) for name, *rest in fixed_logs.fixed_logs()]
 
 
+def orders_of(checks):
+    """For each log among the checks, the order call with buffers just too short, just long enough and longer."""
+    names = {}
+    for check in checks:
+        names.setdefault(check.log, check.name)
+    for log, name in names.items():
+        length = timestamp_order_length(log)
+        for room in sorted({max(length - 1, 0), length, length + 9}):
+            yield Order(f"{name}, order of {room} bytes", log, room)
+
+
+def fixed_orders():
+    """The logs of the fixed checks, for the order call."""
+    return list(orders_of(fixed_checks()))
+
+
 def fixed_calls():
     """Every damage of a state, and states that no run comes to."""
     return [Call(f"call: {name}", *rest) for name, *rest in fixed_states.fixed_states()]
@@ -68,6 +93,10 @@ def random_long_runs(seeds):
 
 def random_checks(seeds):
     return (Check(f"random check {seed}", *random_check(seed)) for seed in seeds)
+
+
+def random_orders(seeds):
+    return orders_of(random_checks(seeds))
 
 
 def random_calls(seeds):

@@ -3,6 +3,10 @@ time, and shows by which inputs it is told apart. Prints a table; ends with 1 if
 
     python3 would_it_notice.py            all of them
     python3 would_it_notice.py WORD       those with this word in their names
+    python3 would_it_notice.py --table    all of them, as docs/WOULD_IT_NOTICE.md has them
+
+An input tells a program apart by what `compare` compares: a run by its output, log and order; a check by its line, its number and
+its answer buffer; an order by code, number and buffer; a call by reply, state and buffer.
 """
 
 import sys
@@ -21,21 +25,21 @@ from scheduler import Operation
 from wrong import in_place
 
 LARGE = 10000       # bytes from which on an input is tried only if no smaller one tells
-ORDER_BYTES = 30000
+ORDER_BYTES = 30000     # of the buffer for a run's order
 
 
 # An answer is a list of parts, each a name and what is told.
 
-def order_call(log):
-    buffer = bytearray(b"\xaa" * ORDER_BYTES)
+def order_call(log, room):
+    buffer = bytearray(b"\xaa" * room)
     code, number = the_order.write_timestamp_order(log, buffer)
-    return f"order call {code} {number}", bytes(buffer)
+    return [("order", f"order {code} {number}"), ("order bytes", bytes(buffer))]
 
 
 def of_run(vector):
     output, log = lines.run(vector.data)
     replies = [("reply", line) for line in output.decode().splitlines()]
-    return [*replies, ("log", log), *zip(("order", "order bytes"), order_call(log))]
+    return [*replies, ("log", log), *order_call(log, ORDER_BYTES)]
 
 
 def of_check(vector):
@@ -43,8 +47,11 @@ def of_check(vector):
     code, number = checker.check(vector.log, vector.order, answer)
     return [("line", checker.check_line(vector.log, vector.order)),
             ("answer", f"{code} {number} in {vector.room} bytes"),
-            ("answer bytes", bytes(answer)),
-            *zip(("order", "order bytes"), order_call(vector.log))]
+            ("answer bytes", bytes(answer))]
+
+
+def of_order(vector):
+    return order_call(vector.log, vector.room)
 
 
 def of_call(vector):
@@ -63,7 +70,8 @@ class Call:
 
 def answer_of(vector):
     """What the program that stands there now answers; a crash is an answer too."""
-    answer = {vectors.Run: of_run, vectors.Check: of_check, Call: of_call}[type(vector)]
+    answer = {vectors.Run: of_run, vectors.Check: of_check, vectors.Order: of_order,
+              Call: of_call}[type(vector)]
     try:
         return answer(vector)
     except Exception as crash:
@@ -90,11 +98,13 @@ class Inputs:
     def __init__(self):
         runs = vectors.fixed_runs() + list(vectors.random_runs(range(60)))
         checks = vectors.fixed_checks() + list(vectors.random_checks(range(150)))
+        orders = vectors.fixed_orders() + list(vectors.random_orders(range(40)))
         calls = vectors.fixed_calls() + list(vectors.random_calls(range(300)))
         self.runs = [run for run in runs if len(run.data) < LARGE]
         self.large_runs = [run for run in runs if len(run.data) >= LARGE]
         self.checks = [check for check in checks if len(check.log) < LARGE]
         self.large_checks = [check for check in checks if len(check.log) >= LARGE]
+        self.orders = [order for order in orders if len(order.log) < LARGE]
         self.calls = [Call(call) for call in calls]
         self.right = {}
 
@@ -125,8 +135,9 @@ def tried(program, inputs, of_checker):
     """The inputs that tell the program apart, by kind; one large one if no smaller does."""
     if of_checker:
         told = {"checks": inputs.tell(program, inputs.checks)}
-        if not told["checks"]:
+        if not told["checks"] and not program.by_orders:
             told["large check"] = inputs.tell(program, inputs.large_checks, 1)
+        told["orders"] = inputs.tell(program, inputs.orders)
         return told
     told = {"runs": inputs.tell(program, inputs.runs)}
     if not told["runs"] and not program.by_calls:
@@ -143,30 +154,60 @@ def programs(word):
                 yield program, of_checker
 
 
+def told_by(told):
+    """How many inputs of each kind tell the program apart."""
+    return ", ".join(f"{len(vectors_told)} {kind}" for kind, vectors_told in told.items()
+                     if vectors_told) or "NOT TOLD APART"
+
+
+def first_of(told):
+    """The first input that tells the program apart, and the right and the wrong answer."""
+    return next((example for vectors_told in told.values() for example in vectors_told), ("", ""))
+
+
 def row(program, told):
-    by = ", ".join(f"{len(vectors_told)} {kind}" for kind, vectors_told in told.items()
-                   if vectors_told)
-    first = [example for vectors_told in told.values() for example in vectors_told][:1]
-    shown = "".join(f"{shortened(name, 46)}: {differs}" for name, differs in first)
-    return f"{program.name:<50} | {by or 'NOT TOLD APART':<22} | {shown}"
+    name, differs = first_of(told)
+    return f"{program.name:<50} | {told_by(told):<22} | {shortened(name, 46)}: {differs}"
+
+
+def table_row(program, told):
+    cells = [program.name, *first_of(told), told_by(told)]
+    return "| " + " | ".join(cell.replace("|", "\\|") for cell in cells) + " |"
 
 
 def as_promised(program, told):
-    """Whether it is told apart, by a run or a check unless only a call can."""
+    """Whether it is told apart: by a run or a check, unless only a call or an order can."""
     if program.by_calls:
         return bool(told["calls"])
-    return any(vectors_told for kind, vectors_told in told.items() if kind != "calls")
+    if program.by_orders:
+        return bool(told["orders"])
+    return any(told.get(kind) for kind in ("runs", "large run", "checks", "large check"))
+
+
+HEADS = {row: f"{'wrong program':<50} | {'told apart by':<22} | first of these: right / wrong",
+         table_row: """# Would the comparison notice?
+
+Wrong programs, one slip each, put in the second program's place one at a time; for each, the first input of the comparison that
+tells it apart, what the right and the wrong program say there, and how many inputs tell in all: runs of lines, checks of
+logs, order calls, calls of the scheduler with a state. A large input is tried only where no smaller one tells. Written by
+`python3 second/would_it_notice.py --table`.
+
+| Wrong program | First told apart by | Right / wrong | In all |
+|---|---|---|---|"""}
 
 
 def main(arguments):
+    show = table_row if arguments == ["--table"] else row
+    word = "" if show is table_row else "".join(arguments)
     inputs = Inputs()
-    print(f"{'wrong program':<50} | {'told apart by':<22} | first of these: right / wrong")
+    print(HEADS[show])
     total = missed = 0
-    for program, of_checker in programs(arguments[0] if arguments else ""):
+    for program, of_checker in programs(word):
         told = tried(program, inputs, of_checker)
-        print(row(program, told), flush=True)
+        print(show(program, told), flush=True)
         total += 1
         missed += not as_promised(program, told)
+    print("" if show is row else "\n", end="")
     print(f"{total} wrong programs, {total - missed} told apart, {missed} not")
     return 1 if missed or not total else 0
 

@@ -7,14 +7,15 @@ from typing import NamedTuple
 class Wrong(NamedTuple):
     """A wrong program's name, and each change: module, name there, what stands there
     instead. `by_calls` is said where no run of operations shows it: it takes a state that
-    none comes to, or shows in the state alone."""
+    none comes to, or shows in the state alone; `by_orders` where only the order call does."""
     name: str
     changes: tuple
     by_calls: bool = False
+    by_orders: bool = False
 
 
-def wrong(name, module, attribute, instead, by_calls=False):
-    return Wrong(name, ((module, attribute, instead),), by_calls)
+def wrong(name, module, attribute, instead, by_calls=False, by_orders=False):
+    return Wrong(name, ((module, attribute, instead),), by_calls, by_orders)
 
 
 @contextmanager

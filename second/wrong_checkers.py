@@ -330,6 +330,29 @@ def order_without_27(log, buffer):
     return Answer(0, len(written))
 
 
+def order_must_leave_a_byte(log, buffer):
+    """The order call answers 29 where the order just fits."""
+    if len(buffer) == the_order.timestamp_order_length(log) > 0:
+        return Answer(29, 0)
+    return RIGHT_WRITE_ORDER(log, buffer)
+
+
+def order_cut(log, buffer):
+    """The order call writes what fits of an order that is too long, and answers 29."""
+    answer = RIGHT_WRITE_ORDER(log, buffer)
+    if answer.code == 29:
+        written = the_order.order_bytes(RIGHT_READ(log).committed_versions())
+        buffer[:] = written[:len(buffer)]
+    return answer
+
+
+def byte_past_order(log, buffer):
+    answer = RIGHT_WRITE_ORDER(log, buffer)
+    if answer.code == 0 and answer.number < len(buffer):
+        buffer[answer.number] = 0
+    return answer
+
+
 def order_as_written(self):
     """The committed versions in the order in which the log has their writes."""
     versions = {}
@@ -412,7 +435,13 @@ ORDERS = (
           order_as_written),
     wrong("versions without an end in the order", History, "committed_versions", all_versions),
     wrong("the order call does not refuse 27", the_order, "write_timestamp_order",
-          order_without_27),
+          order_without_27, by_orders=True),
+    wrong("an order that just fits is refused", the_order, "write_timestamp_order",
+          order_must_leave_a_byte, by_orders=True),
+    wrong("an order is cut to its buffer", the_order, "write_timestamp_order", order_cut,
+          by_orders=True),
+    wrong("a byte past the order changed", the_order, "write_timestamp_order", byte_past_order,
+          by_orders=True),
 )
 
 ANSWERS = (
