@@ -360,10 +360,29 @@ def lengths():
         *[(item, range(85, 0, -1)) for item in range(63)])
 
 
+def steps():
+    """Stamps far apart, by one step from each to the next, as a table of stamps may not like them."""
+    for step in (256, 8191, 8192, 65536, 16777216):
+        stamps = [step * number for number in range(1, 201)]
+        fields = [begins(*stamps)]
+        for older, stamp in zip([0, *stamps], stamps):
+            fields += [read(stamp, X, older, older), write(stamp, X, stamp), write(stamp, Y, step)]
+        text = log(*fields, commits(*stamps))
+        yield f"200 stamps that step by {step:,}", text, order((X, stamps), (Y, stamps[::-1]))
+        yield f"200 stamps that step by {step:,}, one left out", text, order(
+            (X, stamps), (Y, stamps[:-1]))
+    stamps = [8191 * number for number in range(1, 9362)]
+    yield "9,361 begins that step by 8,191", log(begins(*stamps)), b""
+    yield "9,361 begins that step by 8,191, one twice", log(
+        begins(*stamps[:-1]), begin(stamps[17])), b""
+    yield "4,368 begins and aborts that step by 8,191", log(b"".join(
+        begin(stamp) + abort(stamp) for stamp in stamps[:4368])), b""
+
+
 PARTS = (
     cases, own_reads, own_versions_of_readers, fronts, bad_fields, bad_stamps, bad_items,
     bad_versions, uncommitted, precedence, cuts, each_byte_changed, orders, short_answers,
-    rings, counts, lengths, dense)
+    rings, counts, lengths, dense, steps)
 
 
 def fixed_logs():

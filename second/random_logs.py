@@ -16,6 +16,8 @@ from random_runs import random_run
 def some_stamps(rng, count):
     """This many different stamps in any order, near one another or far apart."""
     highest = rng.choice([count, count + 50, 4294967295])
+    if rng.random() < 0.1:
+        return [8191 * stamp for stamp in rng.sample(range(1, count + 51), count)]
     return rng.sample(range(1, highest + 1), count)
 
 

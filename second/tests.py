@@ -4,6 +4,7 @@ import sys
 import traceback
 
 import test_brute_force
+import test_cases
 import test_checker
 import test_lines
 import test_programs
@@ -11,7 +12,8 @@ import test_scheduler
 import test_slips
 
 MODULES = (
-    test_scheduler, test_checker, test_brute_force, test_lines, test_programs, test_slips)
+    test_scheduler, test_checker, test_brute_force, test_lines, test_programs, test_slips,
+    test_cases)
 
 
 def outcomes(test):
