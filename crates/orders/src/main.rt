@@ -3,66 +3,25 @@
 // buffer that the call leaves; before it, byte i of the buffer is 7 i + 3, mod 256.
 use checker_rules::Ordered;
 use libc::STDIN_FILENO;
-use libc::STDOUT_FILENO;
-ghost use Prim.Native.Nat.{_<_};
-
-fn wide(x: u8) -> u64
-    ensures { λ r. ⌜ r < 256 ⌝ }
-{
-    x as u64
-}
-
-// The next byte of the pattern.
-fn after(b: u8) -> u8 {
-    if b < 249 { b + 7 } else { b - 249 }
-}
-
-fn fill(buf: &mut [u8]) {
-    let mut b: u8 = 3;
-    let mut i: usize = 0;
-    while i < buf.len() {
-        buf[i] = b;
-        b = after(b);
-        i += 1;
-    }
-}
-
-// 1, and for each byte this times 31 plus the byte, mod 4294967291.
-fn hash_of(buf: &[u8]) -> u64 {
-    let mut h: u64 = 1;
-    let mut i: usize = 0;
-    while i < buf.len() {
-        let b = wide(buf[i]);
-        h = (h % 4294967291 * 31 + b) % 4294967291;
-        i += 1;
-    }
-    h
-}
-
-// A number and the byte after it.
-fn say(n: u64, end: u8) {
-    io::print_decimal(STDOUT_FILENO, n);
-    io::write_all(STDOUT_FILENO, &[end]);
-}
 
 fn say_answer(a: Ordered) {
     match a {
         Ordered::Bytes(n) => {
-            say(0, b' ');
-            say(n as u64, b' ');
+            told::say(0, b' ');
+            told::say(n as u64, b' ');
         }
         Ordered::Refused(code, place) => {
-            say(code as u64, b' ');
-            say(place.0 as u64, b' ');
+            told::say(code as u64, b' ');
+            told::say(place.0 as u64, b' ');
         }
     }
 }
 
 fn put(log: &[u8], out: &mut [u8]) {
-    fill(out);
+    told::fill(out);
     let a = checker::write_order(log, out);
     say_answer(a);
-    say(hash_of(out), b'\n');
+    told::say(told::hash_of_bytes(1, out), b'\n');
 }
 
 // The next number of the input, or its end.
