@@ -4,41 +4,34 @@
 use Prim.Native.Nat.{ℕ, zero, suc, _+_, _*_, _≤_, _<_, _^_}
 use native.Mathlib.Omega.{arith}
 use mathlib.Core.Path.{_≡_, refl, sym, ap, _∙_, subst}
-use mathlib.Core.Bool.{true}
 use mathlib.Core.Logic.{_⊎_, inl, inr}
-use mathlib.Core.List.{List, [], _∷_, _++_, reverse, reverseAux, reverseAux-append, reverse-reverse, List·Memᴰ·head, List·Memᴰ·tail}
+use mathlib.Core.List.{List, [], _∷_, _++_, reverse, reverse-reverse, List·Memᴰ·head}
 use native.Mathlib.Decide.{ℕ-discrete}
 use lib.ListN.{length, replicate}
 use Rattle.lists.specs.Choice.{isnt}
 use Rattle.lists.specs.Member.{_∈_}
 use Rattle.lists.proofs.ChoiceLaws.{ite-by}
-use Rattle.log_format.specs.Whole.{maxLog}
+use Rattle.log_format.specs.Bytes.{splice}
+use Rattle.log_format.specs.Whole.{maxLog, header}
 use Rattle.log_format.specs.Events.{Event, begins, commits}
 use Rattle.scheduler_rules.specs.Model.{Model, start, close, begun, ended}
 use Rattle.scheduler_rules.specs.Table.{answer, Outcome, table, Good}
 use Rattle.scheduler_rules.specs.Replies.{Passed, began, committed}
-use Rattle.scheduler_rules.specs.Run.{play, begin, commit}
+use Rattle.scheduler_rules.specs.Run.{Played, play, begin, commit}
 use Rattle.scheduler_rules.specs.declared.Op.{Op}
 use Rattle.scheduler_rules.proofs.Rows.{due-begin, due-commit, roomy}
 use Rattle.scheduler_rules.proofs.ReplyLaws.{replies-only}
-use Rattle.scheduler_rules.proofs.RunLaws.{one-event}
 use Rattle.scheduler.specs.declared.State.{State}
-use Rattle.scheduler.specs.State.{abs, stateOf, undamaged}
+use Rattle.scheduler.specs.State.{abs, stateOf}
 use Rattle.scheduler.specs.Calls.{roomOf, stateAfter, logAfter}
 use Rattle.scheduler.proofs.StateLaws.{abs-state}
 use Rattle.scheduler_laws.specs.Reach.{Fits32, dueTo, Reach, fresh, called}
+use Rattle.scheduler_laws.specs.InTurn.{calls}
 use Rattle.scheduler_laws.proofs.FromFresh.{never-damaged, length-is, log-tells}
+use Rattle.scheduler_laws.proofs.InTurnLaws.{state-is, events-are, calls-reach}
 use Rattle.end_to_end.specs.NotEmptily.{Leaves}
 
 -- ---- a call is what the table says
-
--- where s is undamaged
-module _ (s : State) (op : Op) (b : List ℕ) (h : undamaged s (roomOf b) ≡ true) where
-  state-left : stateAfter s op b ≡ stateOf ((table (roomOf b) op (abs s)) .next)
-  state-left = rw h
-
-  events-left : dueTo s op b ≡ (table (roomOf b) op (abs s)) .due
-  events-left = rw h
 
 module _ (b₀ : List ℕ) where
   -- some buffer is reached with s and es
@@ -50,8 +43,8 @@ module _ (b₀ : List ℕ) where
   by-table m {es} op o f e (b, r) =
       let room : roomOf b ≡ roomOf b₀ = rw (length-is r) in
       let t : table (roomOf b) op (abs (stateOf m)) ≡ o = ap (λ (n : ℕ). table n op (abs (stateOf m))) room ∙ ap (λ (n : Model). table (roomOf b₀) op n) (abs-state m) ∙ e in
-      let p : stateAfter (stateOf m) op b ≡ stateOf (o .next) = state-left (stateOf m) op b (never-damaged r) ∙ ap (λ (z : Outcome). stateOf (z .next)) t in
-      let q : dueTo (stateOf m) op b ≡ o .due = events-left (stateOf m) op b (never-damaged r) ∙ ap (λ (z : Outcome). z .due) t in (
+      let p : stateAfter (stateOf m) op b ≡ stateOf (o .next) = state-is (stateOf m) op b (never-damaged r) ∙ ap (λ (z : Outcome). stateOf (z .next)) t in
+      let q : dueTo (stateOf m) op b ≡ o .due = events-are (stateOf m) op b (never-damaged r) ∙ ap (λ (z : Outcome). z .due) t in (
         logAfter (stateOf m) op b,
         subst (λ (z : State). Reach b₀ z (logAfter (stateOf m) op b) (o .due ++ es)) p
             (subst (λ (ds : List Event). Reach b₀ (stateAfter (stateOf m) op b) (logAfter (stateOf m) op b) (ds ++ es)) q (called (stateOf m) b es op f r)),
@@ -60,23 +53,20 @@ module _ (b₀ : List ℕ) where
 -- ---- a run of operations
 
 module _ (b₀ : List ℕ) where
-  runs : (ops : List Op) → ((op : Op) → op ∈ ops → Fits32 op) → (m : Model) (es : List Event) → Reaches b₀ (stateOf m) es
-      → (s : State) × Reaches b₀ s (reverseAux ((play (roomOf b₀) ops m) .written) es)
-  runs [] f m es r = (stateOf m, r)
-  runs (op ∷ ops) f m es r =
-      let o = table (roomOf b₀) op m in
-      let rest = (play (roomOf b₀) ops (o .next)) .written in
-      let t = runs ops (λ p h. f p (List·Memᴰ·tail h)) (o .next) (o .due ++ es) (by-table b₀ m op o (f op (List·Memᴰ·head refl)) refl r) in
-      let q : reverseAux rest (o .due ++ es) ≡ reverseAux (o .due ++ rest) es =
-      ap (reverseAux rest) (sym (one-event (roomOf b₀) op m es)) ∙ sym (reverseAux-append (o .due) rest es) in
-      (t .0, subst (λ (l : List Event). Reaches b₀ (t .0) l) q (t .1))
-
   -- a log is left where its events, newest first, are reached
   pub leaves : (s : State) (log : List Event) → Reaches b₀ s (reverse log) → Leaves b₀ log
   leaves s log (b, r) = record { state = s; buffer = b; reach = r; tells = log-tells r ∙ reverse-reverse log }
 
   pub any-run : 4 ≤ length b₀ → (ops : List Op) → ((op : Op) → op ∈ ops → Fits32 op) → Leaves b₀ ((play (roomOf b₀) ops start) .written)
-  any-run h ops f = let t = runs ops f start [] (_, fresh h) in leaves (t .0) ((play (roomOf b₀) ops start) .written) (t .1)
+  any-run h ops f =
+      let s = stateOf start in
+      let b = splice b₀ 0 header in
+      let r : Reach b₀ s b [] = fresh h in
+      let room : roomOf b ≡ roomOf b₀ = rw (length-is r) in
+      let e : play (roomOf b) ops (abs s) ≡ play (roomOf b₀) ops start = ap (λ (n : ℕ). play n ops (abs s)) room ∙ ap (play (roomOf b₀) ops) (abs-state start) in
+      let z = calls ops s b in
+      leaves (z .state) ((play (roomOf b₀) ops start) .written)
+      (z .buffer, subst (λ (p : Played). Reach b₀ (z .state) (z .buffer) (reverse (p .written))) e (calls-reach ops f s b [] r))
 
 -- ---- n transactions in turn
 

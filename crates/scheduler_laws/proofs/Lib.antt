@@ -5,3 +5,4 @@ pub mod OneCall
 pub mod FreshStart
 pub mod ReachLaws
 pub mod FromFresh
+pub mod InTurnLaws

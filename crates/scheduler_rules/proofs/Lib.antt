@@ -10,4 +10,5 @@ pub mod LawfulLaws
 pub mod InvariantLaws
 pub mod Reachable
 pub mod RunLaws
+pub mod RoomLaws
 pub mod PageRun

@@ -20,6 +20,11 @@ pub leads-last : {m n : Model} → Leads m n → m .last ≤ n .last
 leads-last here = omega arith
 leads-last (on room op n l) = let a = leads-last l in let b = last-rises room op n in omega arith
 
+-- a run leads on
+pub play-leads : (room : ℕ) (ops : List Op) {m n : Model} → Leads m n → Leads m ((play room ops n) .left)
+play-leads room [] l = l
+play-leads room (op ∷ ops) {m} {n} l = play-leads room ops (on room op n l)
+
 -- at most one event is written at a time, so its order is both orders
 pub one-event : (room : ℕ) (op : Op) (m : Model) (es : List Event) → reverseAux ((table room op m) .due) es ≡ (table room op m) .due ++ es
 one-event room op m es = table-to (λ (n : Model) (ds : List Event). reverseAux ds es ≡ ds ++ es) room op m refl (λ _ _. refl) (λ _ _ _. refl) (λ _ _ _ _. refl) (λ _ _. refl) (λ _ _ _ _. refl)
