@@ -1,0 +1,4 @@
+pub mod JudgesLaws
+pub mod FreshLaws
+pub mod LateLaws
+pub mod PageTableLaws
