@@ -1,11 +1,10 @@
--- The timestamp order as bytes passes 28, and its lists rise; so they are the timestamp order as lists, under which the log's verdict is accepted.
+-- The timestamp order as bytes passes 28, and is read back as its lists, under which the log's verdict is accepted.
 -- Assumes nothing.
-use Prim.Native.Nat.{ℕ, _*_, _≤_, _<_, _^_}
-use mathlib.Core.Path.{_≡_, sym, ap, _∙_, subst, fun-ext}
-use mathlib.Core.List.{List, map}
-use mathlib.Core.Bool.{true}
-use lib.ListN.{length, take}
-use Rattle.log_format.specs.Events.{Event, eventOf}
+use Prim.Native.Nat.{ℕ, _≤_, _<_, _^_}
+use mathlib.Core.Path.{_≡_, ap, _∙_, subst}
+use mathlib.Core.List.{List}
+use lib.ListN.{take}
+use Rattle.log_format.specs.Events.{Event}
 use Rattle.log_format.specs.Told.{Done}
 use Rattle.log_format.proofs.WholeLaws.{read-good}
 use Rattle.scheduler.specs.declared.State.{State}
@@ -16,17 +15,14 @@ use Rattle.graph_theory.specs.Verdict.{accepted}
 use Rattle.serial_theory.specs.Judged.{committed, verdict}
 use Rattle.order_rules.specs.Fields.{vsOf}
 use Rattle.order_rules.specs.Reading.{fieldsOf}
-use Rattle.order_rules.specs.Timestamps.{timestampOrder}
+use Rattle.order_rules.specs.Timestamps.{timestampVersions, timestampOrder}
 use Rattle.order_rules.proofs.VersionLaws.{stamps-fit}
-use Rattle.order_rules.proofs.TimestampLaws.{timestamp-passes, timestamp-fields, stamp-versions, stamp-rises}
-use Rattle.checker_rules.specs.Answers.{judged, answerFor}
-use Rattle.checker_rules.specs.Orders.{wrote, orderFor}
+use Rattle.order_rules.proofs.TimestampLaws.{timestamp-passes, timestamp-fields, stamp-lists}
+use Rattle.checker_rules.specs.Answers.{judged}
 use Rattle.checker_rules.proofs.CheckLaws.{judged-answer}
 use Rattle.checker_rules.proofs.OrderLaws.{written}
-use Rattle.end_to_end.specs.TimestampOrder.{timestampVersions}
 use Rattle.end_to_end.specs.Demand3.{told}
 use Rattle.end_to_end.specs.Checked.{Checked}
-use Rattle.end_to_end.proofs.TimestampLaws.{rising-is-timestamp}
 use Rattle.end_to_end.proofs.Demand3Laws.{are-bytes, told-is, demand3}
 
 module _ {b₀ : List ℕ} {s : State} {b : List ℕ} {es : List Event} (r : Reach b₀ s b es) where
@@ -40,9 +36,7 @@ module _ {b₀ : List ℕ} {s : State} {b : List ℕ} {es : List Event} (r : Rea
 
     -- the lists that are read from the bytes are the timestamp order's
     lists-are : vsOf (fieldsOf (timestampOrder (told s b))) ≡ timestampVersions (told s b)
-    lists-are =
-        rw (timestamp-fields (told s b) well fit)
-        (fun-ext (λ x. rising-is-timestamp (told s b) _ (stamp-versions (told s b) well) x (stamp-rises (told s b) well x)))
+    lists-are = ap vsOf (timestamp-fields (told s b) well fit) ∙ stamp-lists (told s b) well
 
     verdict-is : verdict (told s b) (vsOf (fieldsOf (timestampOrder (told s b)))) ≡ accepted (committed (told s b))
     verdict-is = ap (verdict (told s b)) lists-are ∙ demand3 r .ordered .accepts

@@ -12,11 +12,12 @@ use Rattle.serial_theory.specs.EdgeTest.{edge}
 use Rattle.serial_theory.specs.Judged.{committed, verdict}
 use Rattle.serial_theory.specs.Cases.{logA}
 use Rattle.serial_theory.proofs.EdgeLaws.{edge-true}
-use Rattle.end_to_end.specs.TimestampOrder.{puts?, timestampVersions}
+use Rattle.history_rules.specs.Faults.{written}
+use Rattle.order_rules.specs.Timestamps.{versionsBy, timestampVersions}
 use Rattle.end_to_end.specs.NotEmptily.{outOfTurnLog, OutOfTurn}
 
 pub out-of-turn : OutOfTurn
-unfolding pick table fine due good? memb both either isnt any? below put decLe decLt ℕ-discrete verdict edge committed timestampVersions puts?
+unfolding pick table fine due good? memb both either isnt any? below put decLe decLt ℕ-discrete verdict edge committed timestampVersions versionsBy written
 out-of-turn = record {
   written = refl;
   by-stamp = refl;
@@ -26,5 +27,5 @@ out-of-turn = record {
 }
 
 pub A-cycle : verdict logA (timestampVersions logA) ≡ cycle (1 ∷ 2 ∷ [])
-unfolding both ℕ-discrete verdict edge committed timestampVersions puts?
+unfolding verdict edge committed timestampVersions versionsBy written
 A-cycle = refl

@@ -1,5 +1,4 @@
 pub mod Computed
-pub mod TimestampLaws
 pub mod RightLaws
 pub mod BytesLaws
 pub mod RisingEdges

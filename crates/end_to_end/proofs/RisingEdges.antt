@@ -2,12 +2,14 @@
 -- a version before another has the smaller stamp; and where i's version of x comes after the one that k read, i is not between them (TS5), so it is
 -- above k. So the checker's theory accepts the log with its committed stamps rising, and that order is serial.
 -- Assumes nothing.
-use Prim.Native.Nat.{ℕ, _≤_, _<_}
+use Prim.Native.Nat.{ℕ, suc, _≤_, _<_}
 use native.Mathlib.Omega.{arith}
 use mathlib.Core.Path.{_≡_, refl, subst}
 use mathlib.Core.List.{List, [], _∷_, reverse, List·Memᴰ·head}
 use mathlib.Core.Logic.{inl, inr, _≢_}
 use Rattle.lists.specs.Member.{_∈_, Rising}
+use Rattle.lists.specs.Order.{Before}
+use Rattle.lists.proofs.RisingLaws.{rising-above}
 use Rattle.log_format.specs.Events.{Event}
 use Rattle.log_format.specs.Told.{Got, Done}
 use Rattle.scheduler_rules.specs.Model.{Model}
@@ -21,10 +23,16 @@ use Rattle.serial_theory.specs.Judged.{committed, verdict, Accepted, Judged}
 use Rattle.serial_theory.proofs.RegularLaws.{done-stamp}
 use Rattle.serial_theory.proofs.CommittedLaws.{committed-rising, committed-is}
 use Rattle.serial_theory.proofs.JudgedLaws.{rising-accepted, verdict-judged}
-use Rattle.end_to_end.specs.TimestampOrder.{timestampVersions}
+use Rattle.order_rules.specs.Timestamps.{timestampVersions}
+use Rattle.order_rules.proofs.TimestampLaws.{timestamps-rise, timestamp-versions}
 use Rattle.end_to_end.specs.Demand3.{InTimestampOrder}
-use Rattle.end_to_end.proofs.TimestampLaws.{timestamps-rise, before-below, timestamp-order}
 use Rattle.end_to_end.proofs.RightLaws.{got-straight, lawful-regular}
+
+-- of two in a rising list the first is the smaller
+before-below : (n : ℕ) (l : List ℕ) → Rising n l → (i j : ℕ) → Before l i j → i < j
+before-below n [] r i j b = absurd b
+before-below n (a ∷ l) r i j (inl p) = omega (arith, p .0, rising-above (suc a) l (r .1) j (p .1))
+before-below n (a ∷ l) r i j (inr b) = before-below (suc a) l (r .1) i j b
 
 -- a rising list without 0 rises from 1 on
 from-one : (l : List ℕ) → Rising 0 l → ((t : ℕ) → t ∈ l → t ≢ 0) → Rising 1 l
@@ -74,12 +82,12 @@ module _ {m : Model} {es : List Event} (r : Reached m es) where
   accepts = rising-accepted log vs edges-rise
 
   judged : Accepted log vs (committed log)
-  judged = subst (λ (v : Verdict). Judged log vs v) accepts (verdict-judged log vs regular (timestamp-order log))
+  judged = subst (λ (v : Verdict). Judged log vs v) accepts (verdict-judged log vs regular (timestamp-versions log))
 
   pub in-timestamp-order : InTimestampOrder log
   in-timestamp-order = record {
     regular = regular;
-    order = timestamp-order log;
+    order = timestamp-versions log;
     edges-rise = edges-rise;
     rising = from-one (committed log) (committed-rising log) (λ t h. done-stamp log regular t (committed-is log t .0 h));
     serial = judged .serial;

@@ -22,7 +22,7 @@ use Rattle.graph_theory.specs.Verdict.{accepted}
 use Rattle.serial_theory.specs.Edges.{Regular, VersionOrder, Edge}
 use Rattle.serial_theory.specs.Serial.{SerialOrder, SerialVersions}
 use Rattle.serial_theory.specs.Judged.{committed, verdict}
-use Rattle.end_to_end.specs.TimestampOrder.{timestampVersions}
+use Rattle.order_rules.specs.Timestamps.{timestampVersions}
 
 -- the events that the log bytes used tell, first to last
 abbrev pub told : State → List ℕ → List Event

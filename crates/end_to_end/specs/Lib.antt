@@ -1,4 +1,3 @@
-pub mod TimestampOrder
 pub mod Demand3
 pub mod NotEmptily
 pub mod Checked

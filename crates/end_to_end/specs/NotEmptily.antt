@@ -19,7 +19,7 @@ use Rattle.serial_theory.specs.Edges.{VersionOrder, Edge}
 use Rattle.serial_theory.specs.Serial.{SerialOrder}
 use Rattle.serial_theory.specs.Judged.{committed, verdict}
 use Rattle.serial_theory.specs.Cases.{order, logA}
-use Rattle.end_to_end.specs.TimestampOrder.{timestampVersions}
+use Rattle.order_rules.specs.Timestamps.{timestampVersions}
 use Rattle.end_to_end.specs.Demand3.{told}
 
 -- starting fresh over b₀ and calls lead to a log of these events, first to last

@@ -7,11 +7,11 @@ use Rattle.serial_theory.specs.Judged.{committed}
 use Rattle.order_rules.specs.Fields.{vsOf}
 use Rattle.order_rules.specs.Reading.{foundAt, fieldsAt, readFrom, readOrder}
 use Rattle.order_rules.specs.Right.{someBelow, eachOnce, sound, leftOut, rightBy, rightOrder}
-use Rattle.order_rules.specs.Timestamps.{fieldsUp, versionsBy, orderBy, timestampOrder}
+use Rattle.order_rules.specs.Timestamps.{fieldsUp, versionsBy, timestampVersions, timestampOrder}
 use Rattle.order_rules.specs.Cases.{Cases}
 
 pub cases : Cases
-unfolding rightOrder rightBy leftOut sound eachOnce someBelow readOrder readFrom fieldsAt foundAt bodyLen vsOf written committed timestampOrder orderBy versionsBy fieldsUp
+unfolding rightOrder rightBy leftOut sound eachOnce someBelow readOrder readFrom fieldsAt foundAt bodyLen vsOf written committed timestampOrder timestampVersions versionsBy fieldsUp
 cases = record {
   rising = refl;
   falling = refl;

@@ -179,8 +179,8 @@ module _ (log : List Event) (w : WellFormed log) where
       let v = sound-is wrote (committed log) 0 fs s .1 x in
       record {
         once = v .0;
-        only = λ k m. version-is log w x k .0 (v .1 k m);
-        all = λ k p. left-none wrote (committed log) (vsOf fs) l k x (committed-is log k .1 (p .0)) (put-item log w k x (p .1)) (written-puts log w k x .1 (p .1));
+        only = λ k m. version-is log x k .0 (v .1 k m);
+        all = λ k p. left-none wrote (committed log) (vsOf fs) l k x (committed-is log k .1 (p .0)) (put-item log w k x (p .1)) (written-puts log k x .1 (p .1));
       }
 
   module _ (s : List ℕ) where
@@ -210,8 +210,8 @@ module _ (log : List Event) (w : WellFormed log) where
         let fs = r .fields in
         let e : readOrder s ≡ some fs = rw (r .bytes) (read-written fs (r .fit) (r .filled)) in
         let item : (x : ℕ) → x ∈ items fs → x ≤ mostItem = λ x m. (let k = item-version fs 0 (r .rise) (r .filled) x m in put-item log w (k .0) x (r .versions x .only (k .0) (k .1) .1)) in
-        let p = is-sound wrote (committed log) 0 fs (r .rise) item (λ x. (r .versions x .once, λ k m. version-is log w x k .1 (r .versions x .only k m))) in
-        let l = none-left wrote (committed log) (vsOf fs) (λ i x m h n. r .versions x .all i (committed-is log i .0 m, written-puts log w i x .0 n)) in
+        let p = is-sound wrote (committed log) 0 fs (r .rise) item (λ x. (r .versions x .once, λ k m. version-is log x k .1 (r .versions x .only k m))) in
+        let l = none-left wrote (committed log) (vsOf fs) (λ i x m h n. r .versions x .all i (committed-is log i .0 m, written-puts log i x .0 n)) in
         rw (e, p, l)
 
     -- the fields that are read from it

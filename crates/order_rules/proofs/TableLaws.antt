@@ -17,7 +17,7 @@ use Rattle.serial_theory.specs.Judged.{committed}
 use Rattle.order_rules.specs.Fields.{Field, field, orderOf, vsOf}
 use Rattle.order_rules.specs.Reading.{readOrder}
 use Rattle.order_rules.specs.Right.{allItems, someBelow, isVersion, eachOnce, sound, missing, leftOut, judged, rightBy, rightOrder}
-use Rattle.order_rules.specs.Timestamps.{withField, fieldsUp, versionsBy, fieldsBy, orderBy, timestampOrder}
+use Rattle.order_rules.specs.Timestamps.{withField, fieldsUp, versionsBy, fieldsBy, orderBy, timestampVersions, timestampOrder}
 
 module _ (wr wr′ : ℕ → ℕ → ℕ) (same : (t x : ℕ) → x ≤ mostItem → wr t x ≡ wr′ t x) (nodes : List ℕ) where
   once-same : (x : ℕ) → x ≤ mostItem → (seen ks : List ℕ) → eachOnce wr nodes x seen ks ≡ eachOnce wr′ nodes x seen ks
@@ -77,5 +77,5 @@ module _ (log : List Event) (table : ℕ → ℕ) (h : Holds (reverse log) table
   right-held s = right-by-same (writtenIn table) (written (reverse log)) (h .writes) (committed log) s
 
   pub timestamp-held : orderBy (writtenIn table) (committed log) ≡ timestampOrder log
-  unfolding timestampOrder
+  unfolding timestampOrder timestampVersions orderBy
   timestamp-held = order-by-same (writtenIn table) (written (reverse log)) (h .writes) (committed log)

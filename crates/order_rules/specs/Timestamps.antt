@@ -1,6 +1,6 @@
 -- The timestamp order of a log: for each item with a committed version a field, its stamps rising.
 -- Assumes nothing.
-use Prim.Native.Nat.{ℕ, zero, suc, _+_}
+use Prim.Native.Nat.{ℕ, zero, suc}
 use mathlib.Core.Path.{_≡_}
 use mathlib.Core.List.{List, [], _∷_, reverse}
 use mathlib.Core.Bool.{cond}
@@ -39,9 +39,13 @@ fieldsBy wr nodes = fieldsUp (versionsBy wr nodes) allItems 0
 unfoldable pub orderBy : (ℕ → ℕ → ℕ) → List ℕ → List ℕ
 orderBy wr nodes = orderOf (fieldsBy wr nodes)
 
--- the timestamp order of a log: its nodes are the committed transactions, rising
+-- x's versions in the timestamp order of a log: of the committed transactions, by rising stamp, those that wrote x
+unfoldable pub timestampVersions : List Event → ℕ → List ℕ
+timestampVersions log = versionsBy (written (reverse log)) (committed log)
+
+-- the timestamp order: the fields of every item, as bytes
 unfoldable pub timestampOrder : List Event → List ℕ
-timestampOrder log = orderBy (written (reverse log)) (committed log)
+timestampOrder log = orderOf (fieldsUp (timestampVersions log) allItems 0)
 
 -- each item's versions stand in stamp order
 abbrev pub InStampOrder : List Field → Type 0
