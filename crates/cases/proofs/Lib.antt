@@ -1,3 +1,5 @@
+pub mod OverLaws
+pub mod PlacedLaws
 pub mod JudgesLaws
 pub mod FreshLaws
 pub mod LateLaws

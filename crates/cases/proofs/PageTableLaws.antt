@@ -20,9 +20,10 @@ use Rattle.scheduler.specs.State.{abs, undamaged, Full}
 use Rattle.scheduler.specs.Calls.{roomOf, replyTo}
 use Rattle.scheduler_laws.specs.InTurn.{calls}
 use Rattle.scheduler_laws.proofs.InTurnLaws.{plays, reply-is}
+use Rattle.serial_theory.specs.Cases.{logA, logB, logC, logE}
 use Rattle.serial_theory.proofs.Cases.{cases-a-to-f}
 use Rattle.cases.specs.PageTable.{PageTable}
-use Rattle.cases.proofs.JudgesLaws.{judges, reads}
+use Rattle.cases.proofs.JudgesLaws.{bases, judges-one, judges-two, header-alone}
 use Rattle.cases.proofs.FreshLaws.{whole, answers-in, answers-from}
 use Rattle.cases.proofs.LateLaws.{late-in-41, kept-in-41, late-in-42, each-7, each-8}
 
@@ -58,12 +59,12 @@ module _ (s : State) (b : List ℕ) (f : Full s) where
 
 pub page-table : PageTable
 page-table = record {
-  A = judges _ _ _ _ (reads .A) (cases-a-to-f .A);
-  B = judges _ _ _ _ (reads .B) (cases-a-to-f .B);
-  C = judges _ _ _ _ (reads .C) (cases-a-to-f .C);
-  D = judges _ _ _ _ (reads .D) (cases-a-to-f .D);
-  E = judges _ _ _ _ (reads .E) (cases-a-to-f .E);
-  F = judges _ _ _ _ (reads .F) (cases-a-to-f .F);
+  A = λ x y it. judges-two x y it logA 2 1 _ (bases .A) (cases-a-to-f .A);
+  B = λ x y it. judges-one x y it logB 1 [] _ (bases .B) (omega arith) (cases-a-to-f .B);
+  C = λ x y it. judges-one x y it logC 1 (2 ∷ []) _ (bases .C) (omega arith) (cases-a-to-f .C);
+  D = λ x y it. judges-one x y it logC 2 (1 ∷ []) _ (bases .D) (omega arith) (cases-a-to-f .D);
+  E = λ x y it. judges-two x y it logE 2 2 _ (bases .E) (cases-a-to-f .E);
+  F = header-alone _ (cases-a-to-f .F);
   G-begins = answers-from 11 (begin 4294967295 ∷ []) _ (omega arith) (omega (arith, filled .begun)) (omega arith) (cases-g-to-j .G-begins);
   G-later = later;
   H-63 = answers-from 27 (begin 1 ∷ read 1 63 ∷ []) _ (omega arith) (omega (arith, filled .read-63)) (omega arith) (cases-g-to-j .H-63);

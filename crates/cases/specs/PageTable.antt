@@ -1,5 +1,5 @@
 -- The page's cases A to J, over the definitions that the contracts cite: what the checker answers for the bytes of a log and of a version order, and what
--- calls answer after a fresh start. `page-table`, in proofs/PageTableLaws.antt, has them all. Item 0 is x, item 1 is y.
+-- calls answer after a fresh start. `page-table`, in proofs/PageTableLaws.antt, has them all.
 -- Assumes nothing.
 use Prim.Native.Nat.{ℕ, _+_, _*_, _≤_}
 use mathlib.Core.Path.{_≡_}
@@ -23,6 +23,7 @@ use Rattle.graph_theory.specs.Verdict.{Verdict, accepted, cycle}
 use Rattle.serial_theory.specs.Cases.{logA, logB, logC, logE}
 use Rattle.order_rules.specs.Fields.{Field, field, orderOf}
 use Rattle.checker_rules.specs.Answers.{judged, answerFor}
+use Rattle.cases.specs.Items.{Items, over, fieldsFor}
 
 -- ---- A to F: a log and a version order as bytes
 
@@ -63,15 +64,15 @@ pub record LateKeeps (z : Ran) : Type 0 where
 
 pub record PageTable : Type 0 where
   -- 1 reads x from 0, writes y; 2 reads y from 0, writes x: cycle 1, 2
-  pub A : Judges logA (field 0 (2 ∷ []) ∷ field 1 (1 ∷ []) ∷ []) (cycle (1 ∷ 2 ∷ []))
+  pub A : (x y : ℕ) → Items x y → Judges (over x y logA) (fieldsFor x (2 ∷ []) y (1 ∷ [])) (cycle (1 ∷ 2 ∷ []))
   -- 1 reads x from 0 and writes x; 2 reads x from 0: accepted, 2, 1
-  pub B : Judges logB (field 0 (1 ∷ []) ∷ []) (accepted (2 ∷ 1 ∷ []))
+  pub B : (x y : ℕ) → Items x y → Judges (over x y logB) (field x (1 ∷ []) ∷ []) (accepted (2 ∷ 1 ∷ []))
   -- 1 and 2 write x; 3 reads x from 1; order 1, 2: accepted, 1, 3, 2
-  pub C : Judges logC (field 0 (1 ∷ 2 ∷ []) ∷ []) (accepted (1 ∷ 3 ∷ 2 ∷ []))
+  pub C : (x y : ℕ) → Items x y → Judges (over x y logC) (field x (1 ∷ 2 ∷ []) ∷ []) (accepted (1 ∷ 3 ∷ 2 ∷ []))
   -- as C, order 2, 1: accepted, 2, 1, 3
-  pub D : Judges logC (field 0 (2 ∷ 1 ∷ []) ∷ []) (accepted (2 ∷ 1 ∷ 3 ∷ []))
+  pub D : (x y : ℕ) → Items x y → Judges (over x y logC) (field x (2 ∷ 1 ∷ []) ∷ []) (accepted (2 ∷ 1 ∷ 3 ∷ []))
   -- 2 writes x and y; 3 reads x from 0 and y from 2: cycle 2, 3
-  pub E : Judges logE (field 0 (2 ∷ []) ∷ field 1 (2 ∷ []) ∷ []) (cycle (2 ∷ 3 ∷ []))
+  pub E : (x y : ℕ) → Items x y → Judges (over x y logE) (fieldsFor x (2 ∷ []) y (2 ∷ [])) (cycle (2 ∷ 3 ∷ []))
   -- header alone: accepted, count 0
   pub F : Judges [] [] (accepted [])
   -- stamp 4294967295 begins

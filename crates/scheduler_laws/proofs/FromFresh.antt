@@ -50,7 +50,7 @@ pub call-reaches : {b₀ : List ℕ} {s : State} {op : Op} {b : List ℕ} {es : 
 call-reaches {s = s} {op} {b} {es} a f w = rw (w .state, w .log, w .reply, ← call.record-is-said s op b) (called s b es op f a)
 
 -- the events that records tell are told by these records
-retold : (es : List Event) → map eventOf (map recordOf es) ≡ es
+pub retold : (es : List Event) → map eventOf (map recordOf es) ≡ es
 retold [] = refl
 retold (e ∷ es) = rw (event-of-record e) (ap (λ (l : List Event). e ∷ l) (retold es))
 
