@@ -135,13 +135,17 @@ module _ (x y : ℕ) (it : Items x y) (log : List Event) where
       ∙ ap judged (ap (λ (gs : List Field). verdict (over x y log) (vsOf gs)) (right-fields (over x y log) w (orderOf fs) r) ∙ verdict-over x y it log vs (vsOf fs) (b .uses) (p .alike) ∙ e)
 
   -- an order with a field for x
+  pub placed-one : (k : ℕ) (ks : List ℕ) → Base log (order (k ∷ ks) []) → bodyOf (length (k ∷ ks)) < 65536 → Placed x y it (field x (k ∷ ks) ∷ []) (order (k ∷ ks) [])
+  placed-one k ks b h = one x y it k ks (record { stamps = stamps-of b 0; body = h })
+
   pub judges-one : (k : ℕ) (ks : List ℕ) (v : Verdict) → Base log (order (k ∷ ks) []) → bodyOf (length (k ∷ ks)) < 65536
       → verdict log (order (k ∷ ks) []) ≡ v → Judges (over x y log) (field x (k ∷ ks) ∷ []) v
-  judges-one k ks v b h = placed (field x (k ∷ ks) ∷ []) (order (k ∷ ks) []) v b (one x y it k ks (record { stamps = stamps-of b 0; body = h }))
+  judges-one k ks v b h = placed (field x (k ∷ ks) ∷ []) (order (k ∷ ks) []) v b (placed-one k ks b h)
 
   -- an order with a field for each
+  pub placed-two : (k l : ℕ) → Base log (order (k ∷ []) (l ∷ [])) → Placed x y it (fieldsFor x (k ∷ []) y (l ∷ [])) (order (k ∷ []) (l ∷ []))
+  placed-two k l b = two x y it k [] l [] (record { stamps = stamps-of b 0; body = omega arith }) (record { stamps = stamps-of b 1; body = omega arith })
+
   pub judges-two : (k l : ℕ) (v : Verdict) → Base log (order (k ∷ []) (l ∷ [])) → verdict log (order (k ∷ []) (l ∷ [])) ≡ v
       → Judges (over x y log) (fieldsFor x (k ∷ []) y (l ∷ [])) v
-  judges-two k l v b =
-      placed (fieldsFor x (k ∷ []) y (l ∷ [])) (order (k ∷ []) (l ∷ [])) v b
-      (two x y it k [] l [] (record { stamps = stamps-of b 0; body = omega arith }) (record { stamps = stamps-of b 1; body = omega arith }))
+  judges-two k l v b = placed (fieldsFor x (k ∷ []) y (l ∷ [])) (order (k ∷ []) (l ∷ [])) v b (placed-two k l b)

@@ -23,7 +23,8 @@ use Rattle.scheduler_laws.proofs.InTurnLaws.{plays, reply-is}
 use Rattle.serial_theory.specs.Cases.{logA, logB, logC, logE}
 use Rattle.serial_theory.proofs.Cases.{cases-a-to-f}
 use Rattle.cases.specs.PageTable.{PageTable}
-use Rattle.cases.proofs.JudgesLaws.{bases, judges-one, judges-two, header-alone}
+use Rattle.cases.proofs.JudgesLaws.{bases, placed-one, judges-one, placed-two, judges-two, header-alone}
+use Rattle.cases.proofs.OnlyLaws.{none-single, one-single, order-single, only-order}
 use Rattle.cases.proofs.FreshLaws.{whole, answers-in, answers-from}
 use Rattle.cases.proofs.LateLaws.{late-in-41, kept-in-41, late-in-42, each-7, each-8}
 
@@ -64,6 +65,9 @@ page-table = record {
   C = λ x y it. judges-one x y it logC 1 (2 ∷ []) _ (bases .C) (omega arith) (cases-a-to-f .C);
   D = λ x y it. judges-one x y it logC 2 (1 ∷ []) _ (bases .D) (omega arith) (cases-a-to-f .D);
   E = λ x y it. judges-two x y it logE 2 2 _ (bases .E) (cases-a-to-f .E);
+  A-order = λ x y it. only-order x y it logA _ _ (bases .A) (placed-two x y it logA 2 1 (bases .A)) (order-single _ _ (one-single 2) (one-single 1));
+  B-order = λ x y it. only-order x y it logB _ _ (bases .B) (placed-one x y it logB 1 [] (bases .B) (omega arith)) (order-single _ _ (one-single 1) none-single);
+  E-order = λ x y it. only-order x y it logE _ _ (bases .E) (placed-two x y it logE 2 2 (bases .E)) (order-single _ _ (one-single 2) (one-single 2));
   F = header-alone _ (cases-a-to-f .F);
   G-begins = answers-from 11 (begin 4294967295 ∷ []) _ (omega arith) (omega (arith, filled .begun)) (omega arith) (cases-g-to-j .G-begins);
   G-later = later;

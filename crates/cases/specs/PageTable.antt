@@ -4,8 +4,10 @@
 use Prim.Native.Nat.{ℕ, _+_, _*_, _≤_}
 use mathlib.Core.Path.{_≡_}
 use mathlib.Core.List.{List, [], _∷_, map}
+use mathlib.Core.Bool.{true}
 use lib.ListN.{length}
 use Rattle.lists.specs.Member.{_∈_}
+use Rattle.log_format.specs.Bytes.{Bytes}
 use Rattle.log_format.specs.Whole.{logOf}
 use Rattle.log_format.specs.Events.{Event, recordOf}
 use Rattle.scheduler_rules.specs.Table.{Good}
@@ -22,6 +24,7 @@ use Rattle.history_rules.specs.WellFormed.{countCommits}
 use Rattle.graph_theory.specs.Verdict.{Verdict, accepted, cycle}
 use Rattle.serial_theory.specs.Cases.{logA, logB, logC, logE}
 use Rattle.order_rules.specs.Fields.{Field, field, orderOf}
+use Rattle.order_rules.specs.Right.{rightOrder}
 use Rattle.checker_rules.specs.Answers.{judged, answerFor}
 use Rattle.cases.specs.Items.{Items, over, fieldsFor}
 
@@ -30,6 +33,10 @@ use Rattle.cases.specs.Items.{Items, over, fieldsFor}
 -- the checker judges the bytes of a log and of an order so, whatever the answer buffer, if it has 4 bytes for each committed transaction
 abbrev pub Judges : List Event → List Field → Verdict → Type 0
 Judges log order v = (a : List ℕ) → 4 * countCommits log ≤ length a → answerFor (logOf (map recordOf log)) (orderOf order) (length a) ≡ judged v
+
+-- no other bytes than this order's pass 28
+abbrev pub OnlyOrder : List Event → List Field → Type 0
+OnlyOrder log order = (s : List ℕ) → Bytes s → rightOrder log s ≡ true → s ≡ orderOf order
 
 -- ---- G to J: calls after a fresh start
 
@@ -73,6 +80,10 @@ pub record PageTable : Type 0 where
   pub D : (x y : ℕ) → Items x y → Judges (over x y logC) (field x (2 ∷ 1 ∷ []) ∷ []) (accepted (2 ∷ 1 ∷ 3 ∷ []))
   -- 2 writes x and y; 3 reads x from 0 and y from 2: cycle 2, 3
   pub E : (x y : ℕ) → Items x y → Judges (over x y logE) (fieldsFor x (2 ∷ []) y (2 ∷ [])) (cycle (2 ∷ 3 ∷ []))
+  -- for A, B and E the page names no order: there is one
+  pub A-order : (x y : ℕ) → Items x y → OnlyOrder (over x y logA) (fieldsFor x (2 ∷ []) y (1 ∷ []))
+  pub B-order : (x y : ℕ) → Items x y → OnlyOrder (over x y logB) (field x (1 ∷ []) ∷ [])
+  pub E-order : (x y : ℕ) → Items x y → OnlyOrder (over x y logE) (fieldsFor x (2 ∷ []) y (2 ∷ []))
   -- header alone: accepted, count 0
   pub F : Judges [] [] (accepted [])
   -- stamp 4294967295 begins
