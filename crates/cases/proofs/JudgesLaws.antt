@@ -131,7 +131,7 @@ module _ (x y : ℕ) (it : Items x y) (log : List Event) where
       let w = well-over x y it log (b .uses) (b .well) in
       let r : RightOrder (over x y log) (orderOf fs) =
       record { fields = fs; fit = p .fit; bytes = refl; rise = p .rise; filled = p .filled; versions = versions-over x y it log (b .uses) fs vs (b .lists) p } in
-      judged-answer (logOf (map recordOf (over x y log))) (orderOf fs) a (over x y log) (passes-over x y it log (b .uses) (b .good) (b .few) (b .well)) (right-passes (over x y log) w (orderOf fs) r) room
+      judged-answer (logOf (map recordOf (over x y log))) (orderOf fs) a (over x y log) (passes-over x y it log (b .uses) (b .good) (b .few) (b .well)) (right-passes (over x y log) w (orderOf fs) r) (omega (arith, room))
       ∙ ap judged (ap (λ (gs : List Field). verdict (over x y log) (vsOf gs)) (right-fields (over x y log) w (orderOf fs) r) ∙ verdict-over x y it log vs (vsOf fs) (b .uses) (p .alike) ∙ e)
 
   -- an order with a field for x

@@ -6,11 +6,12 @@ use native.Mathlib.Omega.{arith}
 use mathlib.Core.Path.{_≡_, refl, sym, ap, _∙_, subst}
 use mathlib.Core.List.{List, [], _∷_, List·Memᴰ·head}
 use mathlib.Core.Bool.{Bool, true, false, cond}
-use lib.Dec.{eqb, ltb}
+use lib.Dec.{eqb}
 use lib.ListN.{length}
 use borrow.Author.Tests.{eq-eqb, ne-eqb, eqb-true, ltb-true, ltb-false}
 use Rattle.lists.specs.Member.{_∈_, Rising}
 use Rattle.lists.specs.Order.{Distinct}
+use Rattle.lists.proofs.ChoiceLaws.{cond-by}
 use Rattle.lists.proofs.OrderLaws.{in-nil}
 use Rattle.log_format.specs.Events.{Event}
 use Rattle.serial_theory.specs.Edges.{Version, VersionOrder}
@@ -56,7 +57,7 @@ module _ (x y : ℕ) (it : Items x y) where
 
   pub two : (k : ℕ) (ks : List ℕ) (l : ℕ) (ls : List ℕ) → Short (k ∷ ks) → Short (l ∷ ls) → Placed (fieldsFor x (k ∷ ks) y (l ∷ ls)) (order (k ∷ ks) (l ∷ ls))
   unfolding vsOf
-  two k ks l ls s t = go (ltb x y) refl
+  two k ks l ls s t = cond-by (λ (fs : List Field). Placed fs (order (k ∷ ks) (l ∷ ls))) _ (λ e. rising (ltb-true _ _ e)) (λ e. falling (ltb-false _ _ e))
     where
       up : (i : ℕ) → i ≤ 1 → vsOf (field x (k ∷ ks) ∷ field y (l ∷ ls) ∷ []) (name i) ≡ order (k ∷ ks) (l ∷ ls) i
       up zero h = rw (eq-eqb x x refl)
@@ -74,15 +75,17 @@ module _ (x y : ℕ) (it : Items x y) where
       only z n a b false true e f us vs m i j u v c d = (j, v, eqb-true z b f ∙ d)
       only z n a b false false e f us vs m i j u v c d = in-nil m
 
-      go : (b : Bool) → ltb x y ≡ b → Placed (cond b (field x (k ∷ ks) ∷ field y (l ∷ ls) ∷ []) (field y (l ∷ ls) ∷ field x (k ∷ ks) ∷ [])) (order (k ∷ ks) (l ∷ ls))
-      go true e = let h = ltb-true x y e in record {
+      rising : x < y → Placed (field x (k ∷ ks) ∷ field y (l ∷ ls) ∷ []) (order (k ∷ ks) (l ∷ ls))
+      rising h = record {
         fit = (fits x (k ∷ ks) (it .first) s, (fits y (l ∷ ls) (it .second) t, tt));
         filled = tt;
         rise = (omega arith, (omega arith, tt));
         alike = up;
         only = λ z n m. only z n x y (eqb z x) (eqb z y) refl refl (k ∷ ks) (l ∷ ls) m 0 1 (omega arith) (omega arith) refl refl;
       }
-      go false e = let h = ltb-false x y e in let d = it .apart in record {
+
+      falling : y ≤ x → Placed (field y (l ∷ ls) ∷ field x (k ∷ ks) ∷ []) (order (k ∷ ks) (l ∷ ls))
+      falling h = let d = it .apart in record {
         fit = (fits y (l ∷ ls) (it .second) t, (fits x (k ∷ ks) (it .first) s, tt));
         filled = tt;
         rise = (omega arith, (omega arith, tt));

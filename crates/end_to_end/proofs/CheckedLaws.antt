@@ -1,6 +1,7 @@
 -- The timestamp order as bytes passes 28, and is read back as its lists, under which the log's verdict is accepted.
 -- Assumes nothing.
 use Prim.Native.Nat.{ℕ, _≤_, _<_, _^_}
+use native.Mathlib.Omega.{arith}
 use mathlib.Core.Path.{_≡_, ap, _∙_, subst}
 use mathlib.Core.List.{List}
 use lib.ListN.{take}
@@ -46,5 +47,5 @@ module _ {b₀ : List ℕ} {s : State} {b : List ℕ} {es : List Event} (r : Rea
     orders = λ few room. written (take (usedOf s) b) a (told s b) (demand3 r .passes few) room;
     accepts =
         λ few room. judged-answer (take (usedOf s) b) (timestampOrder (told s b)) a (told s b) (demand3 r .passes few)
-        (timestamp-passes (told s b) (demand3 r .well-formed few) fit) room ∙ ap judged (verdict-is few);
+        (timestamp-passes (told s b) (demand3 r .well-formed few) fit) (omega (arith, room)) ∙ ap judged (verdict-is few);
   }
