@@ -11,7 +11,7 @@ use Rattle.scheduler_rules.proofs.Reachable.{events-lawful}
 use Rattle.scheduler.specs.declared.State.{State}
 use Rattle.scheduler_laws.specs.Reach.{usedOf, Reach, oldestFirst}
 use Rattle.scheduler_laws.proofs.OneCall.{record-is-said}
-use Rattle.scheduler_laws.proofs.FromFresh.{model-is-reached, log-is, log-reads, log-tells, smallest-never-waits}
+use Rattle.scheduler_laws.proofs.FromFresh.{model-is-reached, log-is, rest-is, log-reads, log-tells, smallest-never-waits}
 use Rattle.history_rules.specs.WellFormed.{mostCommitted, countCommits, WellFormed}
 use Rattle.history_rules.specs.History.{passed, historyOf}
 use Rattle.history_rules.proofs.HistoryLaws.{well-passed}
@@ -37,10 +37,11 @@ module _ {b₀ : List ℕ} {s : State} {b : List ℕ} {es : List Event} (r : Rea
   passes : countCommits (told s b) ≤ mostCommitted → historyOf (take (usedOf s) b) ≡ passed (told s b)
   passes few = well-passed (take (usedOf s) b) are-bytes (oldestFirst es) (log-reads r) (subst WellFormed told-is (well-formed few)) ∙ ap passed (sym told-is)
 
-  pub demand3 : Demand3 s b es
+  pub demand3 : Demand3 b₀ s b es
   demand3 = record {
     said = λ op. record-is-said s op b;
     bytes = log-is r;
+    rest = rest-is r;
     tells = log-tells r;
     ordered = ordered;
     well-formed = well-formed;

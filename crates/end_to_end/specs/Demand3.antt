@@ -6,7 +6,7 @@ use Prim.Native.Nat.{ℕ, _≤_, _<_}
 use mathlib.Core.Path.{_≡_}
 use mathlib.Core.List.{List, reverse}
 use mathlib.Core.Logic.{_≢_}
-use lib.ListN.{take}
+use lib.ListN.{take, drop}
 use Rattle.lists.specs.Member.{_∈_, Rising}
 use Rattle.log_format.specs.Whole.{logOf}
 use Rattle.log_format.specs.Events.{Event, events}
@@ -46,12 +46,14 @@ pub record InTimestampOrder (log : List Event) : Type 0 where
   pub accepts : verdict log (timestampVersions log) ≡ accepted (committed log)
 
 -- what holds wherever a fresh start and any calls lead
-pub record Demand3 (s : State) (b : List ℕ) (es : List Event) : Type 0 where
+pub record Demand3 (b₀ : List ℕ) (s : State) (b : List ℕ) (es : List Event) : Type 0 where
   -- a call writes the event that its reply tells of, and no other
   pub said : (op : Op) → dueTo s op b ≡ saidBy op (replyTo s op b)
   -- the bytes used are the header and exactly the records of the events written
   pub bytes : take (usedOf s) b ≡ logOf (oldestFirst es)
-  -- and tell these events
+  -- the bytes past them are as they were
+  pub rest : drop (usedOf s) b ≡ drop (usedOf s) b₀
+  -- the bytes used tell these events
   pub tells : told s b ≡ reverse es
   -- timestamps order them, whatever was called
   pub ordered : InTimestampOrder (told s b)
