@@ -3,10 +3,12 @@
 from collections import Counter
 import os
 import re
+import shutil
 from typing import NamedTuple
 
 from built import FOLDER, ROOT
 
+KEPT = os.path.join(FOLDER, "differences")
 SHOWN = 40      # bytes shown of an input or an answer
 
 
@@ -76,14 +78,23 @@ def told(built, second):
             for answer in (built, second)]
 
 
+def size(difference):
+    """The bytes of the input."""
+    return sum(map(len, difference.input.values()))
+
+
+def forget():
+    """Removes the inputs that an earlier comparison left."""
+    shutil.rmtree(KEPT, ignore_errors=True)
+
+
 def kept(difference):
     """Writes the input's parts to files under target/; answers their names."""
-    folder = os.path.join(FOLDER, "differences")
-    os.makedirs(folder, exist_ok=True)
+    os.makedirs(KEPT, exist_ok=True)
     stem = re.sub(r"[^A-Za-z0-9]+", "_", difference.name).strip("_")
     names = []
     for part, data in difference.input.items():
-        name = os.path.join(folder, f"{stem}.{part}")
+        name = os.path.join(KEPT, f"{stem}.{part}")
         with open(name, "wb") as file:
             file.write(data)
         names.append(os.path.relpath(name, ROOT))
