@@ -10,7 +10,7 @@ HARNESS = os.path.join(FOLDER, "harness")
 ARCHIVE = os.path.join(TARGET, "staticlib", "libchecker.a")
 PATIENCE = 120      # seconds after which a run has no end
 
-GCC = ("gcc", "-fsanitize=address", "-g", "-O1", "-Wall", "-Wextra", "-Werror")
+GCC = ("gcc", "-fsanitize=address", "-g", "-O1")
 
 
 class NotBuilt(Exception):
