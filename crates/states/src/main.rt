@@ -58,25 +58,31 @@ fn at(tables: &[u32; 4192], from: usize, i: usize) -> u32 {
     0
 }
 
-// A column of 1,024 numbers from a place on.
-fn column(tables: &[u32; 4192], from: usize) -> [u32; 1024] {
-    let mut c = [0u32; 1024];
+// The numbers of a column, which stand in the tables from a place on.
+fn copy(tables: &[u32; 4192], from: usize, column: &mut [u32]) {
     let mut i: usize = 0;
-    while i < 1024 {
-        c[i] = at(tables, from, i);
+    while i < column.len() {
+        column[i] = at(tables, from, i);
         i += 1;
     }
-    c
 }
 
-fn initial_marks(tables: &[u32; 4192]) -> [u32; 64] {
-    let mut c = [0u32; 64];
-    let mut i: usize = 0;
-    while i < 64 {
-        c[i] = at(tables, 32, i);
-        i += 1;
+fn versions(tables: &[u32; 4192], count: usize) -> Versions {
+    let mut items = [0u32; 1024];
+    let mut stamps = [0u32; 1024];
+    let mut values = [0u32; 1024];
+    let mut marks = [0u32; 1024];
+    copy(tables, 96, &mut items);
+    copy(tables, 1120, &mut stamps);
+    copy(tables, 2144, &mut values);
+    copy(tables, 3168, &mut marks);
+    Versions {
+        items,
+        stamps,
+        values,
+        marks,
+        count,
     }
-    c
 }
 
 fn open_table(tables: &[u32; 4192], count: usize) -> OpenTable {
@@ -94,14 +100,9 @@ fn state_of(c: Counts, tables: &[u32; 4192]) -> State {
     let used = Place(c.used);
     let live = open_table(tables, c.live);
     let core = Core { last, used, live };
-    let marks = initial_marks(tables);
-    let versions = Versions {
-        items: column(tables, 96),
-        stamps: column(tables, 1120),
-        values: column(tables, 2144),
-        marks: column(tables, 3168),
-        count: c.held,
-    };
+    let mut marks = [0u32; 64];
+    copy(tables, 32, &mut marks);
+    let versions = versions(tables, c.held);
     State {
         core,
         marks,

@@ -58,40 +58,6 @@ fn write(log: &mut [u8], used: usize, k: u32, item: u8) -> usize {
     )
 }
 
-// The header, and begins of the stamps from 1 to n.
-fn begins(log: &mut [u8], n: u32) -> usize {
-    log_writer::write_header(log);
-    let mut used: usize = 4;
-    let mut k: u32 = 0;
-    while k < n {
-        k += 1;
-        used = add(log, used, Record::Begin(Stamp(k)));
-    }
-    used
-}
-
-fn commits(log: &mut [u8], from: usize, n: u32) -> usize {
-    let mut used = from;
-    let mut k: u32 = 0;
-    while k < n {
-        k += 1;
-        used = add(log, used, Record::Commit(Stamp(k)));
-    }
-    used
-}
-
-// Each of the stamps from 1 to n reads item 0 from the one before it, and writes it.
-fn handed_on(log: &mut [u8], from: usize, n: u32) -> usize {
-    let mut used = from;
-    let mut k: u32 = 0;
-    while k < n {
-        used = read(log, used, k + 1, 0, k);
-        k += 1;
-        used = write(log, used, k, 0);
-    }
-    used
-}
-
 // The stamp 2k writes item 0, and the one below it reads that version.
 fn pair(log: &mut [u8], used: usize, k: u32) -> usize {
     if 0 < k {
@@ -103,15 +69,47 @@ fn pair(log: &mut [u8], used: usize, k: u32) -> usize {
     used
 }
 
-// Each even stamp from 2 to 2n is paired with the odd one below it.
-fn pairs(log: &mut [u8], from: usize, n: u32) -> usize {
+// The stamp k reads item 0 from the one below it, and writes it.
+fn hand_on(log: &mut [u8], used: usize, k: u32) -> usize {
+    if 0 < k {
+        let got = read(log, used, k, 0, k - 1);
+        return write(log, got, k, 0);
+    }
+    used
+}
+
+// What each of many transactions does in turn.
+pub enum Turn {
+    Begins,
+    HandsOn,
+    Pairs,
+    Commits,
+}
+
+fn take_turn(log: &mut [u8], used: usize, what: Turn, k: u32) -> usize {
+    match what {
+        Turn::Begins => add(log, used, Record::Begin(Stamp(k))),
+        Turn::HandsOn => hand_on(log, used, k),
+        Turn::Pairs => pair(log, used, k),
+        Turn::Commits => add(log, used, Record::Commit(Stamp(k))),
+    }
+}
+
+// The bytes used when the stamps from 1 to n have had their turn.
+fn each(log: &mut [u8], from: usize, what: Turn, n: u32) -> usize {
     let mut used = from;
     let mut k: u32 = 0;
     while k < n {
         k += 1;
-        used = pair(log, used, k);
+        used = take_turn(log, used, what, k);
     }
     used
+}
+
+// The header, and begins of the stamps from 1 to n.
+fn begun(log: &mut [u8], n: u32) -> usize {
+    log_writer::write_header(log);
+    each(log, 4, Turn::Begins, n)
 }
 
 // ---- version orders
@@ -169,8 +167,8 @@ fn long_logs() {
 // n transactions begin and commit.
 fn committed(name: &[u8], n: u32, answer: &mut [u8]) {
     let mut log = [0u8; 4096];
-    let begun = begins(&mut log, n);
-    let used = commits(&mut log, begun, n);
+    let first = begun(&mut log, n);
+    let used = each(&mut log, first, Turn::Commits, n);
     judged(name, &log, used, b"", 0, answer);
 }
 
@@ -178,11 +176,11 @@ fn committed(name: &[u8], n: u32, answer: &mut [u8]) {
 fn cycle_of_200() {
     let mut log = [0u8; 8192];
     let mut answer = [0u8; 1024];
-    let begun = begins(&mut log, 200);
-    let paired = pairs(&mut log, begun, 100);
+    let first = begun(&mut log, 200);
+    let paired = each(&mut log, first, Turn::Pairs, 100);
     let wrote = write(&mut log, paired, 1, 1);
     let closed = read(&mut log, wrote, 200, 1, 1);
-    let used = commits(&mut log, closed, 200);
+    let used = each(&mut log, closed, Turn::Commits, 200);
     let mut order = [0u8; 412];
     put(&mut order, 0, 32);
     put_two(&mut order, 1, 401);
@@ -199,9 +197,9 @@ fn cycle_of_200() {
 fn dense() {
     let mut log = [0u8; 16384];
     let mut answer = [0u8; 1024];
-    let begun = begins(&mut log, 256);
-    let wrote = handed_on(&mut log, begun, 256);
-    let used = commits(&mut log, wrote, 256);
+    let first = begun(&mut log, 256);
+    let wrote = each(&mut log, first, Turn::HandsOn, 256);
+    let used = each(&mut log, wrote, Turn::Commits, 256);
     let mut order = [0u8; 1028];
     put(&mut order, 0, 32);
     put_two(&mut order, 1, 1025);

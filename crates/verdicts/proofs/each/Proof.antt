@@ -1,21 +1,18 @@
--- `verdicts::begins` is safe and ends: the buffer keeps its length, and what is left to begin falls at each turn.
+-- `verdicts::each` is safe and ends: the buffer keeps its length, and the stamps that are left get fewer.
 -- Assumes nothing.
 use borrow.Author.Needs.{needs}
 use native.Mathlib.Omega.{arith}
 use Prim.Native.Nat.{_≤_, _-_}
 use mathlib.Core.Path.{_≡_, _∙_}
 use lib.ListN.{length}
-use Rattle.verdicts.proofs.begins.Statement.{statement}
-use Rattle.verdicts.proofs.begins.Tie as tie
+use Rattle.verdicts.proofs.each.Statement.{statement}
+use Rattle.verdicts.proofs.each.Tie as tie
 
 abbrev Inv-loop : tie.InvT-loop
-Inv-loop log₀ n used₀ k₀ log used k = (length log ≡ length log₀) × (k ≤ n)
+Inv-loop log₀ from what n used₀ k₀ log used k = (length log ≡ length log₀) × (k ≤ n)
 
 abbrev μ-loop : tie.MeasureT-loop
-μ-loop log₀ n used₀ k₀ log used k = n - k
-
-write-header-requires : tie.Need-write-header-requires Inv-loop μ-loop
-write-header-requires c κs = search needs
+μ-loop log₀ from what n used₀ k₀ log used k = n - k
 
 loop-holds : tie.Need-loop-holds Inv-loop μ-loop
 loop-holds c = search needs
@@ -23,14 +20,14 @@ loop-holds c = search needs
 add-k : tie.Need-add-k Inv-loop μ-loop
 add-k c = search needs
 
-add-requires : tie.Need-add-requires Inv-loop μ-loop
-add-requires c κs = search needs
+take-turn-requires : tie.Need-take-turn-requires Inv-loop μ-loop
+take-turn-requires c κs = search needs
 
 loop-less : tie.Need-loop-less Inv-loop μ-loop
 loop-less c = search needs
 
 loop-again : tie.Need-loop-again Inv-loop μ-loop
-loop-again c = (c .before .before .add .kept .0 ∙ c .before .before .before .before .before .loop .inv .0, omega arith)
+loop-again c = (c .before .before .take-turn .kept .0 ∙ c .before .before .before .before .before .loop .inv .0, omega arith)
 
 same-length : tie.Need-same-length Inv-loop μ-loop
 same-length c = search needs
@@ -38,16 +35,15 @@ same-length c = search needs
 returns : tie.Need-returns Inv-loop μ-loop
 returns c = search needs
 
-pub begins-spec : {M : Type 1} → statement M
-begins-spec =
+pub each-spec : {M : Type 1} → statement M
+each-spec =
     tie.close
     (tie.spec
     Inv-loop
     μ-loop
-    write-header-requires
     loop-holds
     add-k
-    add-requires
+    take-turn-requires
     loop-less
     loop-again
     same-length
