@@ -7,6 +7,7 @@ ROOT = os.path.dirname(os.path.dirname(os.path.abspath(__file__)))
 TARGET = os.path.join(ROOT, "target")
 FOLDER = os.path.join(TARGET, "compare")    # what the comparison writes
 HARNESS = os.path.join(FOLDER, "harness")
+EXAMPLE = os.path.join(FOLDER, "example")
 ARCHIVE = os.path.join(TARGET, "staticlib", "libchecker.a")
 PATIENCE = 120      # seconds after which a run has no end
 
@@ -48,12 +49,13 @@ def build(command):
         raise NotBuilt(f"{' '.join(command)}:\n{done.stdout.decode(errors='replace')}")
 
 
-def build_harness():
-    """Makes the archive with the C call, and the harness that calls it."""
+def build_for_c():
+    """Makes the archive with the C call, the harness that calls it, and the panel's example."""
     build(["rt", "staticlib", "checker"])
     os.makedirs(FOLDER, exist_ok=True)
-    build([*GCC, "-I", os.path.join(ROOT, "panel"), "-o", HARNESS,
-           os.path.join(ROOT, "second", "harness.c"), ARCHIVE])
+    for program_built, *source in ((HARNESS, "second", "harness.c"), (EXAMPLE, "panel", "example.c")):
+        build([*GCC, "-I", os.path.join(ROOT, "panel"), "-o", program_built,
+               os.path.join(ROOT, *source), ARCHIVE])
 
 
 def need(name):
