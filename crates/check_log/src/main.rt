@@ -1,5 +1,6 @@
 // Judges the log and the version order in the files that its two arguments name, and prints one line: `accepted` or `cycle` and the
 // stamps, each after a space, or `refused`, code and number. A file that is not named, not opened or not read counts as empty.
+use libc::STDOUT_FILENO;
 ghost use Rattle.io.specs.Counts.{Counts};
 
 // The bytes of a file that fit, and how many: 0 where an argument names none that can be read.
@@ -22,9 +23,9 @@ fn read_file(i: usize, buf: &mut [u8]) -> usize
 fn main() {
     let mut log = [0u8; 65537];
     let mut order = [0u8; 65793];
-    let mut answer = [0u8; 1024];
+    let mut line = [0u8; 2825];
     let l = read_file(1, &mut log);
     let o = read_file(2, &mut order);
-    let c = checker::check(&log[..l], &order[..o], &mut answer);
-    verdict_line::print(c, &answer);
+    let n = verdict_line::write_verdict(&log[..l], &order[..o], &mut line);
+    io::write_all(STDOUT_FILENO, &line[..n]);
 }

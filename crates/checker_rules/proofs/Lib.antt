@@ -1,4 +1,5 @@
 pub mod CheckLaws
 pub mod VerdictLaws
 pub mod OrderLaws
+pub mod EachLaws
 pub mod PanelLaws

@@ -5,52 +5,24 @@ use Prim.Native.Nat.{ℕ, _+_, _*_, _/_, _%_, _≤_, _<_}
 use native.Mathlib.Omega.{arith}
 use mathlib.Core.Path.{_≡_, refl, sym, ap, _∙_, subst}
 use mathlib.Core.List.{List, [], _∷_}
-use mathlib.Core.Bool.{Bool, true, false, cond}
-use lib.Dec.{ltb}
 use lib.ListN.{length}
 use Rattle.log_format.specs.Bytes.{Bytes}
-use Rattle.log_format.specs.Events.{Event}
-use Rattle.history_rules.specs.WellFormed.{countCommits, WellFormed}
-use Rattle.history_rules.specs.History.{History, passed, refused, historyOf}
-use Rattle.history_rules.proofs.HistoryLaws.{passed-well, refused-codes}
+use Rattle.history_rules.proofs.HistoryLaws.{refused-codes}
 use Rattle.history_rules.proofs.PlaceLaws.{refused-place}
-use Rattle.graph_theory.specs.Verdict.{Verdict, accepted, cycle}
-use Rattle.serial_theory.specs.Judged.{verdict, Judged}
-use Rattle.serial_theory.proofs.JudgedLaws.{checked-verdict}
-use Rattle.order_rules.specs.Fields.{vsOf}
-use Rattle.order_rules.specs.Reading.{fieldsOf}
-use Rattle.order_rules.specs.Right.{rightOrder}
-use Rattle.order_rules.proofs.RightLaws.{passes-order}
 use Rattle.log_format.specs.declared.Place.{Place}
 use Rattle.checker_rules.specs.declared.Checked.{Checked}
 use Rattle.checker_rules.specs.declared.Checked.the-variants.{Accepted, Cycle, Refused}
-use Rattle.checker_rules.specs.Answers.{Answer, no, judged, answerBy, answerFor, checkedOf, checkedCode, checkedNumber, returned, Small, CheckIs, PanelIs}
+use Rattle.checker_rules.proofs.EachLaws.{answer-each}
+use Rattle.checker_rules.specs.Answers.{Answer, answerFor, checkedOf, checkedCode, checkedNumber, returned, Small, CheckIs, PanelIs}
 
--- a verdict's number is at most that of the committed transactions
-small-verdict : (log : List Event) (vs : ℕ → List ℕ) → WellFormed log → (v : Verdict) → Judged log vs v → Small (checkedOf (judged v))
-small-verdict log vs w (accepted o) j = let n = j .number in let f = w .few in record { code = omega arith; number = omega arith }
-small-verdict log vs w (cycle c) j = let n = j .number in let f = w .few in record { code = omega arith; number = omega arith }
-
-module _ (log order : List ℕ) (bl : Bytes log) (bo : Bytes order) (room : ℕ) where
-  small-by : (h : History) → historyOf log ≡ h → Small (checkedOf (answerBy order room h))
-  small-by (refused c p) e =
-      let q = refused-codes log bl c p e in
-      let n = refused-place log bl c p e in
-      record { code = omega arith; number = omega arith }
-  small-by (passed es) e = go (rightOrder es order) refl (ltb room (4 * countCommits es))
-    where
-      well : WellFormed es
-      well = passed-well log bl es e .3
-
-      go : (b : Bool) → rightOrder es order ≡ b → (t : Bool) → Small (checkedOf (cond b (cond t (no 29 0) (judged (verdict es (vsOf (fieldsOf order))))) (no 28 0)))
-      go true r true = record { code = omega arith; number = omega arith }
-      go true r false = small-verdict es (vsOf (fieldsOf order)) well (verdict es (vsOf (fieldsOf order))) (checked-verdict es (vsOf (fieldsOf order)) well (passes-order es well order bo r) .0)
-      go false r t = record { code = omega arith; number = omega arith }
-
-  -- each answer is small
-  pub small : Small (checkedOf (answerFor log order room))
-  unfolding answerFor
-  small = small-by (historyOf log) refl
+-- each answer is small
+pub small : (log order : List ℕ) → Bytes log → Bytes order → (room : ℕ) → Small (checkedOf (answerFor log order room))
+small log order bl bo room = answer-each log order bl bo room (λ (a : Answer). Small (checkedOf a))
+    (λ c p e. let q = refused-codes log bl c p e in let n = refused-place log bl c p e in record { code = omega arith; number = omega arith })
+    (record { code = omega arith; number = omega arith })
+    (record { code = omega arith; number = omega arith })
+    (λ es vs w m o j. let f = w .few in let n = j .number in record { code = omega arith; number = omega arith })
+    (λ es vs w m c j. let f = w .few in let n = j .number in record { code = omega arith; number = omega arith })
 
 -- ---- the one number, for each answer
 

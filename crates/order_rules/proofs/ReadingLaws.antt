@@ -108,7 +108,7 @@ module _ (s l : List ℕ) (at : ℕ) (h : drop at s ≡ l) where
 -- ---- what was written is read
 
 -- stamps from their bytes
-stamps-read : (s q : List ℕ) (at : ℕ) (ks : List ℕ) → drop at s ≡ stampBytes ks ++ q → ((k : ℕ) → k ∈ ks → k < 2 ^ 32)
+pub stamps-read : (s q : List ℕ) (at : ℕ) (ks : List ℕ) → drop at s ≡ stampBytes ks ++ q → ((k : ℕ) → k ∈ ks → k < 2 ^ 32)
     → (stampsAt s at (length ks) ≡ ks) × (drop (at + 4 * length ks) s ≡ q)
 stamps-read s q at [] e f = (refl, rw add-zero e)
 stamps-read s q at (k ∷ ks) e f =
@@ -167,7 +167,7 @@ module _ (s : List ℕ) (b : Bytes s) where
       let h₃ = b (at + 3) in
       omega arith
 
-  stamps-fit : (at n k : ℕ) → k ∈ stampsAt s at n → k < 2 ^ 32
+  pub stamps-fit : (at n k : ℕ) → k ∈ stampsAt s at n → k < 2 ^ 32
   stamps-fit at zero k m = in-nil m
   stamps-fit at (suc n) k (List·Memᴰ·head q) = subst (λ (j : ℕ). j < 2 ^ 32) (sym q) (number-fits at)
   stamps-fit at (suc n) k (List·Memᴰ·tail m) = stamps-fit (at + 4) n k m

@@ -10,7 +10,7 @@ use scheduler_rules::Op;
 use scheduler_rules::Reply;
 
 // Writes the bytes of a word at a place where they fit, and answers the place after them.
-fn put_word(out: &mut [u8], at: usize, word: &[u8]) -> usize
+pub fn put_word(out: &mut [u8], at: usize, word: &[u8]) -> usize
     requires { ⌜ at + length (now word) ≤ length (now out) ⌝ }
     ensures { λ r. ⌜ Put (now (out .entry)) at (now (word .entry)) r (now (out .exit)) ⌝ }
 {
@@ -23,7 +23,7 @@ fn put_word(out: &mut [u8], at: usize, word: &[u8]) -> usize
 }
 
 // Writes a number in decimal at a place where it fits, and answers the place after it: the tenth of it, then its last digit.
-fn put_number(out: &mut [u8], at: usize, n: u64) -> usize
+pub fn put_number(out: &mut [u8], at: usize, n: u64) -> usize
     requires { ⌜ at + length (digits n) ≤ length (now out) ⌝ }
     ensures { λ r. ⌜ Put (now (out .entry)) at (digits n) r (now (out .exit)) ⌝ }
 {

@@ -6,15 +6,20 @@ use log_format::Place;
 use log_format::Record;
 use log_format::Stamp;
 
-// The verdict on the first bytes of a log and an order, under a name.
-fn judged(name: &[u8], log: &[u8], used: usize, order: &[u8], n: usize, answer: &mut [u8]) {
-    io::write_all(STDOUT_FILENO, name);
-    if used <= log.len() {
-        if n <= order.len() {
-            let c = checker::check(&log[..used], &order[..n], answer);
-            verdict_line::print(c, answer);
-        }
+// The first n bytes, or all where there are fewer.
+fn front(s: &[u8], n: usize) -> &[u8] {
+    if n <= s.len() {
+        return &s[..n];
     }
+    s
+}
+
+// The verdict on the first bytes of a log and an order, under a name.
+fn judged(name: &[u8], log: &[u8], used: usize, order: &[u8]) {
+    let mut line = [0u8; 2825];
+    let n = verdict_line::write_verdict(front(log, used), order, &mut line);
+    io::write_all(STDOUT_FILENO, name);
+    io::write_all(STDOUT_FILENO, &line[..n]);
 }
 
 // ---- logs
@@ -158,24 +163,38 @@ fn falling(order: &mut [u8], from: usize, first: u32, step: u32, n: usize) {
 // A header and then zeros: a byte over the limit is seen first, then the unknown tag 0.
 fn long_logs() {
     let mut log = [0u8; 65537];
-    let mut answer = [0u8; 1024];
     log_writer::write_header(&mut log);
-    judged(b"65537 bytes: ", &log, 65537, b"", 0, &mut answer);
-    judged(b"65536 bytes: ", &log, 65536, b"", 0, &mut answer);
+    judged(b"65537 bytes: ", &log, 65537, b"");
+    judged(b"65536 bytes: ", &log, 65536, b"");
 }
 
-// n transactions begin and commit.
-fn committed(name: &[u8], n: u32, answer: &mut [u8]) {
+// n transactions begin and commit; the bytes used.
+fn committed(log: &mut [u8], n: u32) -> usize {
+    let first = begun(log, n);
+    each(log, first, Turn::Commits, n)
+}
+
+fn many_committed() {
     let mut log = [0u8; 4096];
-    let first = begun(&mut log, n);
-    let used = each(&mut log, first, Turn::Commits, n);
-    judged(name, &log, used, b"", 0, answer);
+    let few = committed(&mut log, 256);
+    judged(b"256 committed: ", &log, few, b"");
+    short_answer(&log, few);
+    let many = committed(&mut log, 257);
+    judged(b"257 committed: ", &log, many, b"");
+}
+
+// The first bytes of a log, under no order, with an answer that is a byte too short for 256 stamps.
+fn short_answer(log: &[u8], used: usize) {
+    let mut answer = [0u8; 1023];
+    let r = checker::svelmings_check(front(log, used), b"", &mut answer);
+    io::write_all(STDOUT_FILENO, b"256 committed, 1023 bytes: ");
+    io::print_decimal(STDOUT_FILENO, r as u64);
+    io::write_all(STDOUT_FILENO, b"\n");
 }
 
 // 200 before 199 before 198, down to 1, and 1 before 200, which reads what 1 wrote.
 fn cycle_of_200() {
     let mut log = [0u8; 8192];
-    let mut answer = [0u8; 1024];
     let first = begun(&mut log, 200);
     let paired = each(&mut log, first, Turn::Pairs, 100);
     let wrote = write(&mut log, paired, 1, 1);
@@ -189,14 +208,13 @@ fn cycle_of_200() {
     put_two(&mut order, 405, 5);
     put(&mut order, 407, 1);
     falling(&mut order, 408, 1, 1, 1);
-    judged(b"cycle of 200: ", &log, used, &order, 412, &mut answer);
+    judged(b"cycle of 200: ", &log, used, &order);
 }
 
 // Each of 256 transactions writes item 0 and reads it from the one before: under the order of their stamps an edge leads from each to
 // each later one. Under the falling order the first reads from version 0, so an edge leads from 1 to all, and from 3 to 1.
 fn dense() {
     let mut log = [0u8; 16384];
-    let mut answer = [0u8; 1024];
     let first = begun(&mut log, 256);
     let wrote = each(&mut log, first, Turn::HandsOn, 256);
     let used = each(&mut log, wrote, Turn::Commits, 256);
@@ -204,32 +222,19 @@ fn dense() {
     put(&mut order, 0, 32);
     put_two(&mut order, 1, 1025);
     falling(&mut order, 4, 256, 1, 256);
-    judged(
-        b"dense, falling order: ",
-        &log,
-        used,
-        &order,
-        1028,
-        &mut answer,
-    );
-    rising(&log, used, &mut order, &mut answer);
+    judged(b"dense, falling order: ", &log, used, &order);
+    rising(&log, used, &mut order);
 }
 
 // The log under its timestamp order.
-fn rising(log: &[u8], used: usize, order: &mut [u8], answer: &mut [u8]) {
-    if used <= log.len() {
-        checker::write_order(&log[..used], order);
-        judged(b"dense, rising order: ", log, used, order, 1028, answer);
-    }
+fn rising(log: &[u8], used: usize, order: &mut [u8]) {
+    checker::write_order(front(log, used), order);
+    judged(b"dense, rising order: ", log, used, order);
 }
 
 fn main() {
     long_logs();
-    let mut answer = [0u8; 1024];
-    let mut short = [0u8; 1023];
-    committed(b"256 committed: ", 256, &mut answer);
-    committed(b"256 committed, 1023 bytes: ", 256, &mut short);
-    committed(b"257 committed: ", 257, &mut answer);
+    many_committed();
     cycle_of_200();
     dense();
 }

@@ -1,0 +1,3 @@
+pub mod SpacedLaws
+pub mod TellingLaws
+pub mod Computed
