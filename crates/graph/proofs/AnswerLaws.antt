@@ -19,8 +19,7 @@ use Rattle.log_format.proofs.SpliceLaws.{spliced, andThen}
 use Rattle.log_format.proofs.AppendLaws.{length-splice}
 use Rattle.graph_theory.specs.Walking.{before, from, least, turnTo, smallestFirst}
 use Rattle.graph_theory.proofs.TurningLaws.{least-in, least-le}
-use Rattle.graph.specs.Walked.{LeastAt}
-use Rattle.graph.specs.Answer.{bytesOf, stampsAt, Turned}
+use Rattle.graph.specs.Answer.{bytesOf, stampsAt, LeastAt, Turned}
 
 -- ---- the smallest place
 

@@ -21,15 +21,15 @@ use Rattle.graph_theory.specs.Verdict.{Verdict, accepted, cycle, stampsOf, judg
 use Rattle.graph_theory.specs.Standing.{renamed}
 use Rattle.graph_theory.proofs.TakingLaws.{takes-any, taken-in, left-stuck, left-rising, takeAll-rule}
 use Rattle.graph_theory.proofs.WalkingLaws.{walks-cycle, walked-rule}
-use Rattle.graph.specs.Nodes.{indices, leftOf}
-use Rattle.graph.specs.Taken.{Taken}
-use Rattle.graph.specs.Walked.{partOf, Walked}
+use Rattle.taking.specs.Nodes.{indices, leftOf}
+use Rattle.taking.specs.Taken.{Taken}
+use Rattle.walking.specs.Walked.{partOf, Walked}
 use Rattle.graph.specs.Answer.{bytesOf, AllBelow, Turned, foundOf, foundNumber, Answered}
-use Rattle.graph.specs.declared.Span.{Span}
+use Rattle.walking.specs.declared.Span.{Span}
 use Rattle.graph.specs.declared.Found.{Found}
 use Rattle.graph.specs.declared.Found.the-variants.{Accepted, Cycle as Ring}
-use Rattle.graph.proofs.NodesLaws.{index-below, upFrom-rising, left-in}
-use Rattle.graph.proofs.TakenLaws.{empty}
+use Rattle.taking.proofs.NodesLaws.{index-below, upFrom-rising, left-in}
+use Rattle.taking.proofs.TakenLaws.{empty}
 use Rattle.graph.proofs.AnswerLaws.{stampBytes, length-bytesOf, in-slice, turn-least}
 
 -- the edges that a test passes

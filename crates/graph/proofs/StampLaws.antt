@@ -23,9 +23,9 @@ use Rattle.serial_theory.proofs.EdgeLaws.{edge-true, true-edge}
 use Rattle.edges.specs.Matrix.{edgeAt}
 use Rattle.edges.specs.Ranked.{EdgesOf}
 use Rattle.edges.proofs.DrawingLaws.{edges-all}
-use Rattle.graph.specs.Nodes.{upFrom, indices}
+use Rattle.taking.specs.Nodes.{upFrom, indices}
 use Rattle.graph.specs.Answer.{verdictAt}
-use Rattle.graph.proofs.NodesLaws.{index-below}
+use Rattle.taking.proofs.NodesLaws.{index-below}
 
 module _ (nodes : List ℕ) where
   abbrev node : ℕ → ℕ

@@ -8,9 +8,8 @@ use lib.Seq.{slice}
 use Rattle.log_format.specs.Bytes.{bytes4, splice}
 use Rattle.graph_theory.specs.Verdict.{Verdict, accepted, cycle, stampsOf, verdictOf}
 use Rattle.graph_theory.specs.Standing.{renamed}
-use Rattle.edges.specs.Matrix.{mostNodes, matrixSize, edgeAt}
-use Rattle.graph.specs.Nodes.{indices}
-use Rattle.graph.specs.Walked.{LeastAt}
+use Rattle.edges.specs.Matrix.{edgeAt}
+use Rattle.taking.specs.Nodes.{indices}
 use Rattle.graph.specs.declared.Found.{Found}
 use Rattle.graph.specs.declared.Found.the-variants.{Accepted, Cycle}
 
@@ -36,17 +35,18 @@ stampsAt nodes l = map (λ (k : ℕ). getD nodes k 0) l
 abbrev pub AllBelow : ℕ → List ℕ → ℕ → ℕ → Type 0
 AllBelow n l f t = (i : ℕ) → f ≤ i → i < t → getD l i 0 < n
 
+-- q is the first place from f to before t of the smallest number there
+pub record LeastAt (l : List ℕ) (f t q : ℕ) : Type 0 where
+  pub low : f ≤ q
+  pub high : q < t
+  pub front : (j : ℕ) → f ≤ j → j < q → getD l q 0 < getD l j 0
+  pub back : (j : ℕ) → q ≤ j → j < t → getD l q 0 ≤ getD l j 0
+
 -- the stamps of the part from f to before t of the path are written, turned so that the smallest comes first
 pub record Turned (nodes path : List ℕ) (f t : ℕ) (answer after : List ℕ) : Type 0 where
   pub place : ℕ
   pub least : LeastAt path f t place
   pub is : after ≡ splice answer 0 (bytesOf (stampsAt nodes (slice place t path ++ slice f place path)))
-
--- there is a matrix for 256 nodes, there are no more nodes than that, and each has room for its number
-pub record Rooms (m d : List ℕ) (count : ℕ) : Type 0 where
-  pub matrix : matrixSize ≤ length m
-  pub few : count ≤ mostNodes
-  pub numbers : count ≤ length d
 
 -- the verdict on the graph of a matrix over the nodes below count, with their stamps
 unfoldable pub verdictAt : List ℕ → ℕ → List ℕ → Verdict

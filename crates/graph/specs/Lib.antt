@@ -1,4 +1,1 @@
-pub mod Nodes
-pub mod Taken
-pub mod Walked
 pub mod Answer

@@ -1,0 +1,2 @@
+pub mod NodesLaws
+pub mod TakenLaws
