@@ -4,16 +4,16 @@
 use Prim.Native.Nat.{ℕ, _*_, _≤_, _<_}
 use native.Mathlib.Omega.{arith}
 use mathlib.Core.Path.{_≡_, refl, sym, ap, _∙_, subst}
-use mathlib.Core.List.{List, [], _∷_}
+use mathlib.Core.List.{List}
 use mathlib.Core.Bool.{Bool, true, false}
 use lib.ListN.{length, take}
-use Rattle.log_format.specs.Bytes.{Bytes, bytes4, splice}
+use Rattle.log_format.specs.Bytes.{Bytes, stampBytes, splice}
 use Rattle.index.specs.Index.{lookup}
 use Rattle.history.specs.Nodes.{Nodes}
 use Rattle.graph_theory.specs.Verdict.{Verdict, accepted, cycle, stampsOf}
 use Rattle.serial_theory.specs.Edges.{VersionOrder}
 use Rattle.serial_theory.specs.Judged.{verdict}
-use Rattle.order_rules.specs.Fields.{stampBytes, vsOf}
+use Rattle.order_rules.specs.Fields.{vsOf}
 use Rattle.order_rules.specs.Reading.{fieldsOf}
 use Rattle.order_rules.specs.Right.{rightOrder}
 use Rattle.order_rules.proofs.TableLaws.{right-held}
@@ -22,7 +22,7 @@ use Rattle.version_order.specs.Judging.{wroteIn}
 use Rattle.version_order.specs.Judging.{Ranked as Judged·Ranked}
 use Rattle.drawing.specs.Drawing.{Tables}
 use Rattle.edges.specs.Ranked.{Ranked}
-use Rattle.graph.specs.Answer.{Answered, bytesOf, foundOf}
+use Rattle.graph.specs.Answer.{Answered, foundOf}
 use Rattle.graph.specs.declared.Found.{Found}
 use Rattle.graph.specs.declared.Found.the-variants.{Accepted as Found·Accepted, Cycle as Found·Cycle}
 use Rattle.checker_rules.specs.Answers.{CheckIs, judged, answerFor, checkedOf, stampsFor}
@@ -32,11 +32,6 @@ use Rattle.checker_rules.proofs.CheckLaws.{order-refused, room-refused, judged-
 use Rattle.checker.specs.Reads.{ReadLog, GraphIs}
 use Rattle.checker.proofs.OrderedLaws.{well, nodes-are, number-is, few, rising}
 use Rattle.checker.proofs.RankedLaws.{ranked}
-
--- the graph writes stamps as the order does
-same-bytes : (l : List ℕ) → bytesOf l ≡ stampBytes l
-same-bytes [] = refl
-same-bytes (k ∷ l) = rw (same-bytes l)
 
 -- what the graph found, as the checker says it
 abbrev pub saidOf : Found → Checked
@@ -55,7 +50,7 @@ stamps-are (cycle c) = refl
 answered-is : (s order b : List ℕ) (v : Verdict) (f : Found) (b′ : List ℕ) → answerFor s order (length b) ≡ judged v → Answered v b b′ f → CheckIs s order b (saidOf f) b′
 answered-is s order b v f b′ e a = record {
   answer = ap saidOf (a .found) ∙ said-is v ∙ rw e;
-  bytes = a .bytes ∙ ap (splice b 0) (same-bytes (stampsOf v) ∙ ap stampBytes (stamps-are v)) ∙ rw e;
+  bytes = a .bytes ∙ ap (λ (l : List ℕ). splice b 0 (stampBytes l)) (stamps-are v) ∙ rw e;
 }
 
 module _ (s keys next head vals : List ℕ) (rows : ℕ) (by : Bytes s) (r : ReadLog s keys next head vals rows) (a nodes : List ℕ) (count : ℕ) (n : Nodes s a nodes count) where

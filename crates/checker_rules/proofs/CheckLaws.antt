@@ -13,7 +13,7 @@ use Rattle.history_rules.specs.WellFormed.{countCommits}
 use Rattle.history_rules.specs.History.{History, passed, refused, historyOf}
 use Rattle.graph_theory.specs.Verdict.{Verdict, accepted, cycle, stampsOf}
 use Rattle.serial_theory.specs.Judged.{verdict}
-use Rattle.order_rules.specs.Fields.{stampBytes, vsOf}
+use Rattle.order_rules.specs.Fields.{vsOf}
 use Rattle.order_rules.specs.Reading.{fieldsOf}
 use Rattle.order_rules.specs.Right.{rightOrder}
 use Rattle.checker_rules.specs.declared.Checked.{Checked}

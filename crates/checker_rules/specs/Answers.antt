@@ -6,12 +6,12 @@ use mathlib.Core.List.{List, [], _∷_}
 use mathlib.Core.Bool.{cond}
 use lib.Dec.{ltb}
 use lib.ListN.{length}
-use Rattle.log_format.specs.Bytes.{splice}
+use Rattle.log_format.specs.Bytes.{stampBytes, splice}
 use Rattle.history_rules.specs.WellFormed.{countCommits}
 use Rattle.history_rules.specs.History.{History, passed, refused, historyOf}
 use Rattle.graph_theory.specs.Verdict.{Verdict, accepted, cycle}
 use Rattle.serial_theory.specs.Judged.{verdict}
-use Rattle.order_rules.specs.Fields.{stampBytes, vsOf}
+use Rattle.order_rules.specs.Fields.{vsOf}
 use Rattle.order_rules.specs.Reading.{fieldsOf}
 use Rattle.order_rules.specs.Right.{rightOrder}
 use Rattle.checker_rules.specs.declared.Checked.{Checked}

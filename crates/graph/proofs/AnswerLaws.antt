@@ -6,20 +6,21 @@ use native.Mathlib.Numerals.{add-one}
 use native.Mathlib.Omega.{arith}
 use mathlib.Core.Path.{_≡_, refl, sym, _∙_, ap, subst}
 use mathlib.Core.Logic.{_≢_}
-use mathlib.Core.List.{List, [], _∷_, _++_, List·Memᴰ·head, List·Memᴰ·tail, append-assoc, append-nil}
+use mathlib.Core.List.{List, [], _∷_, _++_, List·Memᴰ·head, List·Memᴰ·tail, append-nil}
 use mathlib.Core.Bool.{Bool, true, false, cond}
 use lib.Dec.{eqb, ltb}
-use lib.ListN.{length, take, drop, getD, length-append, length-map}
+use lib.ListN.{length, take, drop, getD, length-map}
 use lib.Seq.{slice, slice-cons, slice-empty, length-slice, take-suc, drop-append-le, length-take-le}
 use borrow.Author.Tests.{eqb-true, eqb-false, eq-eqb, ne-eqb, ltb-true, ltb-false}
 use Rattle.lists.specs.Member.{_∈_}
 use Rattle.lists.proofs.OrderLaws.{in-nil}
-use Rattle.log_format.specs.Bytes.{bytes4, splice}
+use Rattle.log_format.specs.Bytes.{bytes4, stampBytes, splice}
+use Rattle.log_format.proofs.StampBytesLaws.{length-stampBytes, stampBytes-append}
 use Rattle.log_format.proofs.SpliceLaws.{spliced, andThen}
 use Rattle.log_format.proofs.AppendLaws.{length-splice}
 use Rattle.graph_theory.specs.Walking.{before, from, least, turnTo, smallestFirst}
 use Rattle.graph_theory.proofs.TurningLaws.{least-in, least-le}
-use Rattle.graph.specs.Answer.{bytesOf, stampsAt, LeastAt, Turned}
+use Rattle.graph.specs.Answer.{stampsAt, LeastAt, Turned}
 
 -- ---- the smallest place
 
@@ -73,30 +74,22 @@ module _ (l : List ℕ) (f t : ℕ) where
 
 -- ---- the stamps written
 
-pub length-bytesOf : (l : List ℕ) → length (bytesOf l) ≡ 4 * length l
-length-bytesOf [] = refl
-length-bytesOf (x ∷ l) = omega (arith, length-append (bytes4 x) (bytesOf l), length-bytesOf l)
-
-bytesOf-append : (l m : List ℕ) → bytesOf (l ++ m) ≡ bytesOf l ++ bytesOf m
-bytesOf-append [] m = refl
-bytesOf-append (x ∷ l) m = ap (λ (t : List ℕ). bytes4 x ++ t) (bytesOf-append l m) ∙ sym (append-assoc (bytes4 x) (bytesOf l) (bytesOf m))
-
 stampsAt-append : (nodes l m : List ℕ) → stampsAt nodes (l ++ m) ≡ stampsAt nodes l ++ stampsAt nodes m
 stampsAt-append nodes [] m = refl
 stampsAt-append nodes (k ∷ l) m = ap (λ (t : List ℕ). getD nodes k 0 ∷ t) (stampsAt-append nodes l m)
 
 -- the bytes of the stamps of nodes
-abbrev pub stampBytes : List ℕ → List ℕ → List ℕ
-stampBytes nodes l = bytesOf (stampsAt nodes l)
+abbrev pub nodeBytes : List ℕ → List ℕ → List ℕ
+nodeBytes nodes l = stampBytes (stampsAt nodes l)
 
-stampBytes-append : (nodes l m : List ℕ) → stampBytes nodes (l ++ m) ≡ stampBytes nodes l ++ stampBytes nodes m
-stampBytes-append nodes l m = ap bytesOf (stampsAt-append nodes l m) ∙ bytesOf-append (stampsAt nodes l) (stampsAt nodes m)
+nodeBytes-append : (nodes l m : List ℕ) → nodeBytes nodes (l ++ m) ≡ nodeBytes nodes l ++ nodeBytes nodes m
+nodeBytes-append nodes l m = ap stampBytes (stampsAt-append nodes l m) ∙ stampBytes-append (stampsAt nodes l) (stampsAt nodes m)
 
-length-stampBytes : (nodes l : List ℕ) → length (stampBytes nodes l) ≡ 4 * length l
-length-stampBytes nodes l = length-bytesOf (stampsAt nodes l) ∙ ap (λ (k : ℕ). 4 * k) (length-map l (λ (k : ℕ). getD nodes k 0))
+length-nodeBytes : (nodes l : List ℕ) → length (nodeBytes nodes l) ≡ 4 * length l
+length-nodeBytes nodes l = length-stampBytes (stampsAt nodes l) ∙ ap (λ (k : ℕ). 4 * k) (length-map l (λ (k : ℕ). getD nodes k 0))
 
-length-part : (nodes path : List ℕ) (f t : ℕ) → t ≤ length path → length (stampBytes nodes (slice f t path)) ≡ 4 * (t - f)
-length-part nodes path f t h = length-stampBytes nodes (slice f t path) ∙ ap (λ (k : ℕ). 4 * k) (length-slice f t path h)
+length-part : (nodes path : List ℕ) (f t : ℕ) → t ≤ length path → length (nodeBytes nodes (slice f t path)) ≡ 4 * (t - f)
+length-part nodes path f t h = length-nodeBytes nodes (slice f t path) ∙ ap (λ (k : ℕ). 4 * k) (length-slice f t path h)
 
 slice-snoc : (f i : ℕ) (l : List ℕ) → f ≤ i → i < length l → slice f (suc i) l ≡ slice f i l ++ (getD l i 0 ∷ [])
 slice-snoc f i l h w =
@@ -109,7 +102,7 @@ pub record Put (nodes path : List ℕ) (f t at : ℕ) (a₀ : List ℕ) (i o : �
   pub there : o ≡ at + 4 * (i - f)
   pub room : o + 4 * (t - i) ≤ length a
   pub size : length a ≡ length a₀
-  pub is : a ≡ splice a₀ at (stampBytes nodes (slice f i path))
+  pub is : a ≡ splice a₀ at (nodeBytes nodes (slice f i path))
 
 module _ (nodes path : List ℕ) (f t at : ℕ) (a₀ : List ℕ) where
   pub put-none : f ≤ t → at + 4 * (t - f) ≤ length a₀ → Put nodes path f t at a₀ f at a₀
@@ -126,10 +119,10 @@ module _ (nodes path : List ℕ) (f t at : ℕ) (a₀ : List ℕ) where
       → Put nodes path f t at a₀ (i + 1) (o + 4) (splice a o (bytes4 (getD nodes (getD path i 0) 0)))
   put-next i o a h w p =
       let b = bytes4 (getD nodes (getD path i 0) 0) in
-      let x = stampBytes nodes (slice f i path) in
+      let x = nodeBytes nodes (slice f i path) in
       let n : length x ≡ 4 * (i - f) = length-part nodes path f i (omega arith) in
-      let e : x ++ b ≡ stampBytes nodes (slice f (i + 1) path) =
-      sym (rw (add-one i, slice-snoc f i path (p .low) (omega arith)) (stampBytes-append nodes (slice f i path) (getD path i 0 ∷ []) ∙ rw append-nil refl)) in
+      let e : x ++ b ≡ nodeBytes nodes (slice f (i + 1) path) =
+      sym (rw (add-one i, slice-snoc f i path (p .low) (omega arith)) (nodeBytes-append nodes (slice f i path) (getD path i 0 ∷ []) ∙ rw append-nil refl)) in
       let z : length (splice a o b) ≡ length a = length-splice a o b (omega (arith, p .room)) in
       record {
         low = omega (arith, p .low);
@@ -140,8 +133,8 @@ module _ (nodes path : List ℕ) (f t at : ℕ) (a₀ : List ℕ) where
         is = andThen a₀ a (splice a o b) at o x b (p .is) refl (omega (arith, p .there)) (omega (arith, p .room, p .size)) ∙ ap (splice a₀ at) e;
       }
 
-  pub put-end : (i o : ℕ) (a : List ℕ) → t ≤ i → Put nodes path f t at a₀ i o a → a ≡ splice a₀ at (stampBytes nodes (slice f t path))
-  put-end i o a h p = let z : i ≡ t = omega (arith, p .high) in subst (λ (k : ℕ). a ≡ splice a₀ at (stampBytes nodes (slice f k path))) z (p .is)
+  pub put-end : (i o : ℕ) (a : List ℕ) → t ≤ i → Put nodes path f t at a₀ i o a → a ≡ splice a₀ at (nodeBytes nodes (slice f t path))
+  put-end i o a h p = let z : i ≡ t = omega (arith, p .high) in subst (λ (k : ℕ). a ≡ splice a₀ at (nodeBytes nodes (slice f k path))) z (p .is)
 
 -- ---- members of a part
 
@@ -198,15 +191,15 @@ module _ (l : List ℕ) (t : ℕ) (w : t ≤ length l) where
       up j x y false e = s .back j (ltb-false j q e) y
 
 pub turned : (nodes path : List ℕ) (f q t : ℕ) (answer mid after : List ℕ) → LeastAt path f t q → t ≤ length path → 4 * (t - f) ≤ length answer
-    → mid ≡ splice answer 0 (stampBytes nodes (slice q t path)) → after ≡ splice mid (4 * (t - q)) (stampBytes nodes (slice f q path)) → Turned nodes path f t answer after
+    → mid ≡ splice answer 0 (nodeBytes nodes (slice q t path)) → after ≡ splice mid (4 * (t - q)) (nodeBytes nodes (slice f q path)) → Turned nodes path f t answer after
 turned nodes path f q t answer mid after s w h a b =
-    let x = stampBytes nodes (slice q t path) in
-    let y = stampBytes nodes (slice f q path) in
+    let x = nodeBytes nodes (slice q t path) in
+    let y = nodeBytes nodes (slice f q path) in
     let m : length x ≡ 4 * (t - q) = length-part nodes path q t w in
     let n : length y ≡ 4 * (q - f) = length-part nodes path f q (omega (arith, s .high)) in
     record {
       place = q;
       least = s;
       is = andThen answer mid after 0 (4 * (t - q)) x y a b (omega arith) (omega (arith, s .low, s .high))
-          ∙ ap (splice answer 0) (sym (stampBytes-append nodes (slice q t path) (slice f q path)));
+          ∙ ap (splice answer 0) (sym (nodeBytes-append nodes (slice q t path) (slice f q path)));
     }

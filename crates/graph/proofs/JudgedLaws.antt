@@ -12,7 +12,8 @@ use lib.ListN.{length, take, getD, length-append, length-map}
 use lib.Seq.{slice, slice-empty, length-slice, length-take-le}
 use borrow.Author.Tests.{ltb-true, ltb-false}
 use Rattle.lists.specs.Member.{_∈_}
-use Rattle.log_format.specs.Bytes.{splice}
+use Rattle.log_format.specs.Bytes.{stampBytes, splice}
+use Rattle.log_format.proofs.StampBytesLaws.{length-stampBytes}
 use Rattle.log_format.proofs.AppendLaws.{length-splice, splice-other}
 use Rattle.graph_theory.specs.Graph.{Decides, Cycle}
 use Rattle.graph_theory.specs.Taking.{TakesAny, takeAll}
@@ -24,13 +25,13 @@ use Rattle.graph_theory.proofs.WalkingLaws.{walks-cycle, walked-rule}
 use Rattle.taking.specs.Nodes.{indices, leftOf}
 use Rattle.taking.specs.Taken.{Taken}
 use Rattle.walking.specs.Walked.{partOf, Walked}
-use Rattle.graph.specs.Answer.{bytesOf, AllBelow, Turned, foundOf, foundNumber, Answered}
+use Rattle.graph.specs.Answer.{AllBelow, Turned, foundOf, foundNumber, Answered}
 use Rattle.walking.specs.declared.Span.{Span}
 use Rattle.graph.specs.declared.Found.{Found}
 use Rattle.graph.specs.declared.Found.the-variants.{Accepted, Cycle as Ring}
 use Rattle.taking.proofs.NodesLaws.{index-below, upFrom-rising, left-in}
 use Rattle.taking.proofs.TakenLaws.{empty}
-use Rattle.graph.proofs.AnswerLaws.{stampBytes, length-bytesOf, in-slice, turn-least}
+use Rattle.graph.proofs.AnswerLaws.{nodeBytes, in-slice, turn-least}
 
 -- the edges that a test passes
 abbrev Passes : (ℕ → ℕ → Bool) → ℕ → ℕ → Type 0
@@ -63,7 +64,7 @@ module _ (E : ℕ → ℕ → Bool) (n r : ℕ) (o d : List ℕ) (v : Taken E n 
         let m = subst (λ (k : ℕ). getD o i 0 ∈ take k o) (sym e) (in-slice o n w 0 i h g) in
         index-below n (getD o i 0) (taken-in (Passes E) order (indices n) rest taken-away (getD o i 0) (subst (λ (u : List ℕ). getD o i 0 ∈ u) (v .taken) m))
 
-    pub answered-all : (nodes answer after : List ℕ) → after ≡ splice answer 0 (stampBytes nodes (slice 0 n o))
+    pub answered-all : (nodes answer after : List ℕ) → after ≡ splice answer 0 (nodeBytes nodes (slice 0 n o))
         → Answered (renamed (λ (k : ℕ). getD nodes k 0) (verdictOf E (indices n))) answer after (Accepted n)
     answered-all nodes answer after b = rw all-taken (record {
       found = ap Accepted (sym (length-map (take n o) (λ (k : ℕ). getD nodes k 0) ∙ length-take-le n o w));
@@ -134,12 +135,12 @@ module _ (v : Verdict) (answer after : List ℕ) (r : Found) (a : Answered v ans
   answered-number = ap foundNumber (a .found) ∙ found-number v
 
   module _ (h : 4 * length (stampsOf v) ≤ length answer) where
-    fits : 0 + length (bytesOf (stampsOf v)) ≤ length answer
-    fits = omega (arith, length-bytesOf (stampsOf v))
+    fits : 0 + length (stampBytes (stampsOf v)) ≤ length answer
+    fits = omega (arith, length-stampBytes (stampsOf v))
 
     -- bytes past the last stamp never change
     pub answered-rest : (i : ℕ) → 4 * foundNumber r ≤ i → getD after i 0 ≡ getD answer i 0
-    answered-rest i g = ap (λ (l : List ℕ). getD l i 0) (a .bytes) ∙ splice-other answer 0 (bytesOf (stampsOf v)) fits i (inr (omega (arith, length-bytesOf (stampsOf v), answered-number)))
+    answered-rest i g = ap (λ (l : List ℕ). getD l i 0) (a .bytes) ∙ splice-other answer 0 (stampBytes (stampsOf v)) fits i (inr (omega (arith, length-stampBytes (stampsOf v), answered-number)))
 
     pub answered-length : length after ≡ length answer
-    answered-length = ap length (a .bytes) ∙ length-splice answer 0 (bytesOf (stampsOf v)) fits
+    answered-length = ap length (a .bytes) ∙ length-splice answer 0 (stampBytes (stampsOf v)) fits

@@ -2,10 +2,10 @@
 -- Assumes nothing.
 use Prim.Native.Nat.{ℕ, _≤_, _<_}
 use mathlib.Core.Path.{_≡_}
-use mathlib.Core.List.{List, [], _∷_, _++_, map}
+use mathlib.Core.List.{List, _++_, map}
 use lib.ListN.{length, getD}
 use lib.Seq.{slice}
-use Rattle.log_format.specs.Bytes.{bytes4, splice}
+use Rattle.log_format.specs.Bytes.{stampBytes, splice}
 use Rattle.graph_theory.specs.Verdict.{Verdict, accepted, cycle, stampsOf, verdictOf}
 use Rattle.graph_theory.specs.Standing.{renamed}
 use Rattle.edges.specs.Matrix.{edgeAt}
@@ -21,11 +21,6 @@ foundCode (Cycle n) = 30
 abbrev pub foundNumber : Found → ℕ
 foundNumber (Accepted n) = n
 foundNumber (Cycle n) = n
-
--- stamps, 4 bytes each
-abbrev pub bytesOf : List ℕ → List ℕ
-bytesOf [] = []
-bytesOf (x ∷ l) = bytes4 x ++ bytesOf l
 
 -- the stamps of nodes
 abbrev pub stampsAt : List ℕ → List ℕ → List ℕ
@@ -46,7 +41,7 @@ pub record LeastAt (l : List ℕ) (f t q : ℕ) : Type 0 where
 pub record Turned (nodes path : List ℕ) (f t : ℕ) (answer after : List ℕ) : Type 0 where
   pub place : ℕ
   pub least : LeastAt path f t place
-  pub is : after ≡ splice answer 0 (bytesOf (stampsAt nodes (slice place t path ++ slice f place path)))
+  pub is : after ≡ splice answer 0 (stampBytes (stampsAt nodes (slice place t path ++ slice f place path)))
 
 -- the verdict on the graph of a matrix over the nodes below count, with their stamps
 unfoldable pub verdictAt : List ℕ → ℕ → List ℕ → Verdict
@@ -60,4 +55,4 @@ foundOf (cycle c) = Cycle (length c)
 -- the answer is the verdict's, the verdict's stamps stand at the front of `after`, and every other byte is that of `answer`
 pub record Answered (v : Verdict) (answer after : List ℕ) (r : Found) : Type 0 where
   pub found : r ≡ foundOf v
-  pub bytes : after ≡ splice answer 0 (bytesOf (stampsOf v))
+  pub bytes : after ≡ splice answer 0 (stampBytes (stampsOf v))

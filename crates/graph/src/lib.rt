@@ -7,9 +7,9 @@ ghost use Prim.Native.Nat.{_+_, _-_, _*_, _≤_, _<_};
 ghost use lib.Dec.{ltb};
 ghost use lib.ListN.{length};
 ghost use lib.Seq.{slice};
-ghost use Rattle.log_format.specs.Bytes.{splice};
+ghost use Rattle.log_format.specs.Bytes.{stampBytes, splice};
 ghost use Rattle.walking.specs.Walked.{Rooms};
-ghost use Rattle.graph.specs.Answer.{bytesOf, stampsAt, AllBelow, LeastAt, Turned, Answered, verdictAt};
+ghost use Rattle.graph.specs.Answer.{stampsAt, AllBelow, LeastAt, Turned, Answered, verdictAt};
 use log_writer::put4;
 use taking::take_all;
 use walking::find_cycle;
@@ -45,7 +45,7 @@ fn least_at(path: &[u16], from: usize, end: usize) -> usize
 // Writes the stamps of the nodes that stand in `path` from `from` to before `end`, from a place of the answer on.
 fn put_stamps(nodes: &[u32], path: &[u16], from: usize, end: usize, answer: &mut [u8], at: usize)
     requires { ⌜ from ≤ end ⌝ ∗ ⌜ end ≤ length (now path) ⌝ ∗ ⌜ at + 4 * (end - from) ≤ length (now answer) ⌝ ∗ ⌜ AllBelow (length (now nodes)) (now path) from end ⌝ }
-    ensures { λ _. ⌜ now (answer .exit) ≡ splice (now (answer .entry)) at (bytesOf (stampsAt (now (nodes .entry)) (slice from end (now (path .entry))))) ⌝ }
+    ensures { λ _. ⌜ now (answer .exit) ≡ splice (now (answer .entry)) at (stampBytes (stampsAt (now (nodes .entry)) (slice from end (now (path .entry))))) ⌝ }
 {
     let mut i = from;
     let mut o = at;

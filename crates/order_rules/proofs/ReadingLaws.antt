@@ -17,10 +17,11 @@ use Rattle.lists.specs.Member.{_∈_}
 use Rattle.lists.proofs.ChoiceLaws.{cond-by}
 use Rattle.lists.proofs.TestLaws.{none-some}
 use Rattle.lists.proofs.OrderLaws.{in-nil}
-use Rattle.log_format.specs.Bytes.{Bytes, num2, num4, bytes4}
+use Rattle.log_format.specs.Bytes.{Bytes, num2, num4, bytes4, stampBytes}
 use Rattle.log_format.specs.Fields.{bodyLen}
+use Rattle.log_format.proofs.StampBytesLaws.{length-stampBytes}
 use Rattle.log_format.proofs.RoundTrip.{back, forth, bodyIs, bodyInv}
-use Rattle.order_rules.specs.Fields.{Field, field, bytes2, stampBytes, bodyOf, fieldOf, orderOf, Filled, FieldFits, Fits}
+use Rattle.order_rules.specs.Fields.{Field, field, bytes2, bodyOf, fieldOf, orderOf, Filled, FieldFits, Fits}
 use Rattle.order_rules.specs.Reading.{bodied, foundAt, stampsAt, nextAt, before, after, fieldsAt, readFrom, readOrder, StandsAt}
 use Rattle.order_rules.specs.declared.Found.{Found}
 use Rattle.order_rules.specs.declared.Found.the-variants.{Stamps, End, Bad}
@@ -76,14 +77,10 @@ module _ (s : List ℕ) (at : ℕ) where
       (λ y m t e. let z : _≡_ {A = ℕ} 0 1 = cc in absurd (omega arith))
       (λ e. let z : _≡_ {A = ℕ} 0 1 = cc in absurd (omega arith))
 
--- ---- stamps and their bytes
-
-pub length-stamps : (ks : List ℕ) → length (stampBytes ks) ≡ 4 * length ks
-length-stamps [] = refl
-length-stamps (k ∷ ks) = let h = length-stamps ks in omega arith
+-- ---- a field's bytes
 
 pub length-field : (x : ℕ) (ks : List ℕ) → length (fieldOf x ks) ≡ 4 + 4 * length ks
-length-field x ks = let h = length-stamps ks in omega arith
+length-field x ks = let h = length-stampBytes ks in omega arith
 
 -- the bytes from a place on, one by one
 module _ (s l : List ℕ) (at : ℕ) (h : drop at s ≡ l) where
@@ -123,7 +120,7 @@ module _ (s q : List ℕ) (at x : ℕ) (ks : List ℕ) (e : drop at s ≡ fieldO
   field-stands h =
       let l = len s _ at e in
       let m = length-append (stampBytes ks) q in
-      let p = length-stamps ks in
+      let p = length-stampBytes ks in
       let b = f .body in
       let n : ℕ = bodyOf (length ks) in
       let w : n / 256 % 256 * 256 + n % 256 ≡ n = omega arith in

@@ -6,7 +6,7 @@ use mathlib.Core.Bool.{cond}
 use lib.Dec.{eqb}
 use lib.ListN.{length}
 use Rattle.lists.specs.Member.{_∈_}
-use Rattle.log_format.specs.Bytes.{bytes4}
+use Rattle.log_format.specs.Bytes.{stampBytes}
 
 -- a field of a version order: an item, then its committed versions' stamps, oldest first
 pub data Field : Type 0 where
@@ -17,11 +17,6 @@ pub data Field : Type 0 where
 -- a number's two bytes
 abbrev pub bytes2 : ℕ → List ℕ
 bytes2 n = n / 256 % 256 ∷ n % 256 ∷ []
-
--- stamps, 4 bytes each
-abbrev pub stampBytes : List ℕ → List ℕ
-stampBytes [] = []
-stampBytes (k ∷ ks) = bytes4 k ++ stampBytes ks
 
 -- the length of a body with n stamps: the item, and 4 bytes each
 abbrev pub bodyOf : ℕ → ℕ

@@ -12,11 +12,11 @@ use lib.ListN.{length, take, drop, getD, length-append, take-append-drop}
 use lib.Seq.{length-take-le, getD-take, take-suc, drop-cons, drop-length}
 use mir.Val.{boolByte}
 use borrow.Author.Tests.{ne-eqb}
-use Rattle.log_format.specs.Bytes.{bytes4, splice}
+use Rattle.log_format.specs.Bytes.{bytes4, stampBytes, splice}
 use Rattle.log_format.proofs.SpliceLaws.{andThen}
 use Rattle.log_format.proofs.AppendLaws.{length-splice}
 use Rattle.history_rules.specs.Faults.{differ}
-use Rattle.order_rules.specs.Fields.{Field, field, bytes2, stampBytes, bodyOf, fieldOf, orderOf}
+use Rattle.order_rules.specs.Fields.{Field, field, bytes2, bodyOf, fieldOf, orderOf}
 use Rattle.order_rules.specs.Right.{allItems}
 use Rattle.order_rules.specs.Timestamps.{withField, fieldsUp, versionsBy, orderBy, Wrote}
 use Rattle.order_rules.specs.declared.Written.the-variants.{Bytes}

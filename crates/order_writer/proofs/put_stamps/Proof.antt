@@ -4,7 +4,7 @@ use Prim.Native.Nat.{_-_, _+_, _≤_}
 use mathlib.Core.Path.{_≡_, refl, sym, _∙_}
 use mathlib.Core.List.{List}
 use lib.ListN.{length, take, drop, getD}
-use Rattle.order_rules.specs.Fields.{stampBytes}
+use Rattle.log_format.specs.Bytes.{stampBytes}
 use Rattle.order_rules.specs.Timestamps.{versionsBy}
 use Rattle.version_order.specs.Judging.{wroteIn}
 use Rattle.order_writer.specs.Writing.{stampIf}
