@@ -24,6 +24,13 @@ const MOST_ITEM: u8 = 63;
 
 const ITEMS: usize = 64;
 
+// A field of a version order: its item, its place, and how many stamps it has.
+struct Field {
+    item: u8,
+    at: usize,
+    number: usize,
+}
+
 // ---- the bytes
 
 // A field of n body bytes: its item and how many stamps follow it, or no field.
@@ -126,12 +133,11 @@ fn note(
     false
 }
 
-// Notes the stamps from a place on as the item's versions, oldest first. Answers whether each is a committed version of the item and stands once; then
-// their ranks stand in the item's cells. Other items' cells never change.
+// Notes the stamps of a field as its item's versions, oldest first. Answers whether each is a committed version of the item and stands once; then their
+// ranks stand in the item's cells. Other items' cells never change.
 fn note_all(
     order: &[u8],
-    at: usize,
-    number: usize,
+    field: Field,
     keys: &[u64],
     next: &[usize],
     head: &[usize],
@@ -139,15 +145,13 @@ fn note_all(
     n: usize,
     nodes: &[u32],
     count: usize,
-    item: u8,
     rank: &mut [u16],
 ) -> bool
-    requires { ⌜ (at + 4 * number ≤ length (now order)) × (number < 16384) × (Ready (now keys) (now next) (now head) (now vals) n (now nodes) count) × (item ≤ mostItem) × (count * 64 ≤ length (now rank)) × Clear (take count (now nodes)) item (now rank) ⌝ }
-    ensures { λ r. ⌜ FieldRanked (wroteIn (now (keys .entry)) (now (vals .entry)) n) (take count (now (nodes .entry))) item (stampsAt (now (order .entry)) at number) (now (rank .entry)) r (now (rank .exit)) ⌝ }
+    requires { ⌜ (field .at + 4 + 4 * field .number ≤ length (now order)) × (field .number < 16384) × (Ready (now keys) (now next) (now head) (now vals) n (now nodes) count) × (field .item ≤ mostItem) × (count * 64 ≤ length (now rank)) × Clear (take count (now nodes)) (field .item) (now rank) ⌝ }
+    ensures { λ r. ⌜ FieldRanked (wroteIn (now (keys .entry)) (now (vals .entry)) n) (take count (now (nodes .entry))) (field .item) (stampsAt (now (order .entry)) (field .at + 4) (field .number)) (now (rank .entry)) r (now (rank .exit)) ⌝ }
 {
     let mut i: usize = 0;
-    while i < number {
-        let stamp = be32(order, at + 4 * i);
+    while i < field.number {
         if note(
             keys,
             next,
@@ -156,8 +160,8 @@ fn note_all(
             n,
             nodes,
             count,
-            item,
-            stamp,
+            field.item,
+            be32(order, field.at + 4 + 4 * i),
             (i + 1) as u16,
             rank,
         ) {
@@ -275,20 +279,8 @@ pub fn ranks(
         if MOST_ITEM < item {
             return false;
         }
-        if note_all(
-            order,
-            at + 4,
-            number,
-            keys,
-            next,
-            head,
-            vals,
-            n,
-            nodes,
-            count,
-            item,
-            rank,
-        ) {
+        let field = Field { item, at, number };
+        if note_all(order, field, keys, next, head, vals, n, nodes, count, rank) {
             least = item + 1;
             at = at + 4 + 4 * number;
         } else {

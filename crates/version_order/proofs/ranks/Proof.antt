@@ -1,3 +1,6 @@
+-- `version_order::ranks` meets its contract: at each turn the fields so far are walked, their items rise below `least` and their ranks stand; a field that
+-- falls, is of no item or fails its test fails the order's.
+-- Assumes nothing.
 use Rattle.log_format.specs.Bytes.{Bytes}
 use Rattle.version_order.proofs.WalkLaws.{stands-few}
 use borrow.Author.Needs.{needs}
@@ -13,11 +16,6 @@ use Rattle.version_order.specs.Judging.{wroteIn}
 use Rattle.version_order.proofs.WalkLaws.{Walked, walked-none, walked-clear, walked-next, walked-end, falls, too-large, refused}
 use Rattle.version_order.proofs.ranks.Statement.{statement}
 use Rattle.version_order.proofs.ranks.Tie as tie
-use Rattle.version_order.proofs.ranks.Reads as reads
-use Rattle.version_order.proofs.ranks.Lts as lts
-use Rattle.version_order.proofs.ended.Reads as ended-reads
-use Rattle.version_order.proofs.found_at.Reads as found-at-reads
-use Rattle.version_order.proofs.note_all.Reads as note-all-reads
 
 abbrev Inv-loop : tie.InvT-loop
 Inv-loop order keys next head vals n nodes count rank₀ at₀ least₀ rank at least =
@@ -30,65 +28,48 @@ abbrev μ-loop : tie.MeasureT-loop
 stands : (c : tie.After-known-told Inv-loop μ-loop) → StandsAt (c .before .before .before .before .before .before .before .before .before .before .before .before .args .order .now) (c .before .before .before .before .loop .at) (c .before .found .given .0 .0) (c .before .found .given .0 .1 .0)
 stands c = found-stands _ _ _ _ (sym (c .before .before .before .found-at .ensures) ∙ c .before .found .given .1)
 
--- src/lib.rt:238:5
 loop-holds : tie.Need-loop-holds Inv-loop μ-loop
 loop-holds c =
     let a = c .before .before .before .before .before .before .before .args in
     let z : length (take (a .count) (a .nodes .now)) ≡ a .count = length-take-le (a .count) (a .nodes .now) (c .before .before .before .before .before .before .before .pre .0 .within) in
     (walked-none (wroteIn (a .keys .now) (a .vals .now) (a .n)) (take (a .count) (a .nodes .now)) (a .order .now) (a .rank .now) (λ q h. c .before .before .before .before .before .before .before .pre .2 q (omega arith)), refl)
 
--- src/lib.rt:239:13
 found-at-requires : tie.Need-found-at-requires Inv-loop μ-loop
 found-at-requires c κs = search needs
 
--- src/lib.rt:240:27
 enum-known-found : tie.Need-enum-known-found Inv-loop μ-loop
 enum-known-found c = search needs
 
--- src/lib.rt:241:13
 ended-requires : tie.Need-ended-requires Inv-loop μ-loop
 ended-requires c κs = (c .before .before .before .before .before .before .before .before .before .before .before .pre .0, omega arith)
 
--- src/lib.rt:241:13
 same-length : tie.Need-same-length Inv-loop μ-loop
 same-length c = search needs
 
--- src/lib.rt:241:13
 returns : tie.Need-returns Inv-loop μ-loop
 returns c =
     let a = c .before .before .before .before .before .before .before .before .before .before .before .before .args in
     let m = c .before .before .before .before .loop in
     walked-end (wroteIn (a .keys .now) (a .vals .now) (a .n)) (a .nodes .now) (a .count) (c .before .before .before .before .before .before .before .before .before .before .before .before .pre .0 .within) (a .order .now) (m .rank) (m .at) (m .least) (m .inv .0) (c .before .before .before .found-at .result) (sym (c .before .before .before .found-at .ensures)) (no-stamps (c .before .before .before .found-at .result) (c .before .before .match .keys2)) _ (c .ended .ensures)
 
--- src/lib.rt:244:13
 same-length-2 : tie.Need-same-length-2 Inv-loop μ-loop
 same-length-2 c = search needs
 
--- src/lib.rt:244:13
 returns-2 : tie.Need-returns-2 Inv-loop μ-loop
 returns-2 c =
     let a = c .before .before .before .before .before .before .before .before .before .before .before .before .before .args in
     let m = c .before .before .before .before .before .loop in
     falls (wroteIn (a .keys .now) (a .vals .now) (a .n)) (take (a .count) (a .nodes .now)) (a .order .now) (m .rank) (m .at) (m .least) (m .inv .0) _ _ (stands (c .before)) (c .if1 .taken)
 
--- src/lib.rt:247:13
 same-length-3 : tie.Need-same-length-3 Inv-loop μ-loop
 same-length-3 c = search needs
 
--- src/lib.rt:247:13
 returns-3 : tie.Need-returns-3 Inv-loop μ-loop
 returns-3 c =
     let a = c .before .before .before .before .before .before .before .before .before .before .before .before .before .before .args in
     let m = c .before .before .before .before .before .before .loop in
     too-large (wroteIn (a .keys .now) (a .vals .now) (a .n)) (take (a .count) (a .nodes .now)) (a .order .now) (m .rank) (m .at) (m .least) (m .inv .0) _ _ (stands (c .before .before)) (c .if2 .taken)
 
--- src/lib.rt:249:28
-add-note-all : tie.Need-add-note-all Inv-loop μ-loop
-add-note-all c =
-    let t = stands (c .before .before) .within in
-    omega arith
-
--- src/lib.rt:249:12
 note-all-requires : tie.Need-note-all-requires Inv-loop μ-loop
 note-all-requires c κs =
     let a = c .before .before .before .before .before .before .before .before .before .before .before .before .before .before .before .args in
@@ -98,35 +79,29 @@ note-all-requires c κs =
     let b : Bytes (a .order .now) = λ i. c .before .before .before .before .before .before .before .before .before .before .before .before .before .before .shared-slice-known .given i .fits in
     (omega arith, stands-few (a .order .now) b (m .at) _ _ t, c .before .before .before .before .before .before .before .before .before .before .before .before .before .before .before .pre .0, omega arith, omega arith, walked-clear (wroteIn (a .keys .now) (a .vals .now) (a .n)) (take (a .count) (a .nodes .now)) (a .order .now) (m .rank) (m .at) (m .least) (m .inv .0) _ (omega arith) (omega arith))
 
--- src/lib.rt:250:21
 add-least : tie.Need-add-least Inv-loop μ-loop
 add-least c = search needs
 
--- src/lib.rt:251:18
 add-at : tie.Need-add-at Inv-loop μ-loop
 add-at c =
     let t = stands (c .before .before .before .before .before .before .before) .within in
     omega arith
 
--- src/lib.rt:251:27
 mul-at : tie.Need-mul-at Inv-loop μ-loop
 mul-at c =
     let t = stands (c .before .before .before .before .before .before .before) .within in
     omega arith
 
--- src/lib.rt:251:18
 add-at-2 : tie.Need-add-at-2 Inv-loop μ-loop
 add-at-2 c =
     let t = stands (c .before .before .before .before .before .before .before) .within in
     omega arith
 
--- src/lib.rt:238:5
 loop-less : tie.Need-loop-less Inv-loop μ-loop
 loop-less c =
     let t = stands (c .before .before .before .before .before .before .before) .within in
     omega arith
 
--- src/lib.rt:238:5
 loop-again : tie.Need-loop-again Inv-loop μ-loop
 loop-again c =
     let a = c .before .before .before .before .before .before .before .before .before .before .before .before .before .before .before .before .before .before .before .args in
@@ -134,11 +109,9 @@ loop-again c =
     let s = m .inv .1 in
     (walked-next (wroteIn (a .keys .now) (a .vals .now) (a .n)) (take (a .count) (a .nodes .now)) (a .order .now) (m .rank) (m .at) (m .least) (m .inv .0) _ _ (stands (c .before .before .before .before .before .before .before)) (omega arith) (omega arith) _ _ (c .before .before .before .note-all .ensures) (c .if3 .taken), search needs)
 
--- src/lib.rt:253:13
 same-length-4 : tie.Need-same-length-4 Inv-loop μ-loop
 same-length-4 c = search needs
 
--- src/lib.rt:253:13
 returns-4 : tie.Need-returns-4 Inv-loop μ-loop
 returns-4 c =
     let a = c .before .before .before .before .before .before .before .before .before .before .before .before .before .before .before .before .before .before .before .args in
@@ -161,7 +134,6 @@ ranks-spec =
     returns-2
     same-length-3
     returns-3
-    add-note-all
     note-all-requires
     add-least
     add-at
