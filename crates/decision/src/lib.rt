@@ -8,8 +8,11 @@ use version_columns::Chosen;
 use version_columns::Versions;
 ghost use mathlib.Core.Path.{_≡_};
 ghost use Prim.Native.Nat.{_≤_, _-_};
-ghost use lib.ListN.{length};
+ghost use lib.ListN.{length, take, getD};
+ghost use Rattle.scheduler_rules.specs.Model.{maxItem};
 ghost use Rattle.open_table.specs.Open.{stampsOf};
+ghost use Rattle.version_columns.specs.Columns.{rows};
+ghost use Rattle.version_columns.specs.Lookup.{Ready, Answers};
 ghost use Rattle.decision.specs.Plans.{answerPlan, no, go, fitting, waitsOn, beginPlan, endPlan, readPlan, writePlan, goodOp};
 ghost use Rattle.decision.specs.Decided.{Sized, modelOf, undamagedIn, CanDecide, Decided, PlanIs};
 
@@ -207,6 +210,25 @@ fn sound<'a>(
         & damage::columns_sound(items, stamps, values, readers, count, last.0)
 }
 
+// The version of the operation's item with the largest stamp not above its own, held or initial: the one that a read gets and a write goes over.
+fn choose_for<'a>(
+    op: Op,
+    count: usize,
+    marks: &'a [u32; 64],
+    items: &'a [u32; 1024],
+    stamps: &'a [u32; 1024],
+    values: &'a [u32; 1024],
+    readers: &'a [u32; 1024],
+) -> Chosen
+    requires { ⌜ (op .item ≤ maxItem) × (length (now marks) ≡ 64) × (Ready (now items) (now stamps) (now values) (now readers) count) ⌝ }
+    ensures { λ r. ⌜ Answers (take count (rows (now (items .entry)) (now (stamps .entry)) (now (values .entry)) (now (readers .entry)))) (op .item) (op .stamp .0) (getD (now (marks .entry)) (op .item) 0) r ⌝ }
+{
+    let item = op.item as usize;
+    let k = op.stamp;
+    let first = marks[item];
+    version_columns::choose(items, stamps, values, readers, count, op.item, k, first)
+}
+
 // The plan of a well-formed operation on an undamaged state.
 fn decide<'a>(
     c: Core,
@@ -234,17 +256,7 @@ fn decide<'a>(
         if 3 < kind {
             return plan_end(kind, used, room);
         }
-        let item = op.item as usize;
-        let v = version_columns::choose(
-            items,
-            stamps,
-            values,
-            readers,
-            count,
-            op.item,
-            k,
-            marks[item],
-        );
+        let v = choose_for(op, count, marks, items, stamps, values, readers);
         if kind == 2 {
             return plan_read(v, live, k, used, room);
         }

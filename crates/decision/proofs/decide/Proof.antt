@@ -27,39 +27,28 @@ returns-2 c =
     let among = holds-yes _ _ (sym (c .before .before .before .has .ensures) ∙ c .before .before .if2 .taken) in
     rw (c .plan-end .ensures) (end-decided _ _ _ (c .before .before .before .before .before .before .before .before .pre .deciding) among (c .before .before .before .before .if1 .left) (c .before .if3 .taken))
 
-cast-item : tie.Need-cast-item
-cast-item c = search needs
-
-mul-choose : tie.Need-mul-choose
-mul-choose c = search needs
-
-element-copy-out-choose : tie.Need-element-copy-out-choose
-element-copy-out-choose c =
-    let l = item-low _ (c .before .before .before .before .before .before .before .before .pre .deciding .good) in
-    omega arith
-
-choose-requires : tie.Need-choose-requires
-choose-requires c κs = search needs
+choose-for-requires : tie.Need-choose-for-requires
+choose-for-requires c κs = (item-low _ (c .before .before .before .before .before .before .before .pre .deciding .good), c .before .before .before .before .before .before .before .pre .sized .marks-full, search needs)
 
 plan-read-requires : tie.Need-plan-read-requires
 plan-read-requires c κs = search needs
 
 returns-3 : tie.Need-returns-3
 returns-3 c =
-    let among = holds-yes _ _ (sym (c .before .before .before .before .before .before .before .has .ensures) ∙ c .before .before .before .before .before .before .if2 .taken) in
-    rw (c .plan-read .ensures) (read-decided _ _ _ (c .before .before .before .before .before .before .before .before .before .before .before .before .pre .deciding) among (c .before .before .before .before .before .before .before .before .if1 .left) (c .before .before .choose .result) (c .before .before .choose .ensures) (c .before .if4 .taken))
+    let among = holds-yes _ _ (sym (c .before .before .before .before .before .has .ensures) ∙ c .before .before .before .before .if2 .taken) in
+    rw (c .plan-read .ensures) (read-decided _ _ _ (c .before .before .before .before .before .before .before .before .before .before .pre .deciding) among (c .before .before .before .before .before .before .if1 .left) (c .before .before .choose-for .result) (c .before .before .choose-for .ensures) (c .before .if4 .taken))
 
 plan-write-requires : tie.Need-plan-write-requires
 plan-write-requires c κs = search needs
 
 returns-4 : tie.Need-returns-4
 returns-4 c =
-    let d = c .before .before .before .before .before .before .before .before .before .before .before .before .pre .deciding in
-    let n1 = c .before .before .before .before .before .before .before .before .if1 .left in
+    let d = c .before .before .before .before .before .before .before .before .before .before .pre .deciding in
+    let n1 = c .before .before .before .before .before .before .if1 .left in
     let n2 = c .before .if4 .left in
-    let n3 = c .before .before .before .before .before .if3 .left in
-    let among = holds-yes (c .before .before .before .before .before .before .before .before .before .before .before .before .args .op .stamp .0) _ (sym (c .before .before .before .before .before .before .before .has .ensures) ∙ c .before .before .before .before .before .before .if2 .taken) in
-    rw (c .plan-write .ensures) (write-counted _ _ _ d among (omega (arith, d .good .known .0)) (c .before .before .choose .result) (c .before .before .choose .ensures) _ (held-count _ _ _ _ _ _ _ _ (c .before .before .before .before .before .before .before .before .before .before .before .before .pre)))
+    let n3 = c .before .before .before .if3 .left in
+    let among = holds-yes (c .before .before .before .before .before .before .before .before .before .before .args .op .stamp .0) _ (sym (c .before .before .before .before .before .has .ensures) ∙ c .before .before .before .before .if2 .taken) in
+    rw (c .plan-write .ensures) (write-counted _ _ _ d among (omega (arith, d .good .known .0)) (c .before .before .choose-for .result) (c .before .before .choose-for .ensures) _ (held-count _ _ _ _ _ _ _ _ (c .before .before .before .before .before .before .before .before .before .before .pre)))
 
 refuse-requires : tie.Need-refuse-requires
 refuse-requires c κs = search needs
@@ -76,10 +65,7 @@ decide-spec =
     has-requires
     plan-end-requires
     returns-2
-    cast-item
-    mul-choose
-    element-copy-out-choose
-    choose-requires
+    choose-for-requires
     plan-read-requires
     returns-3
     plan-write-requires
