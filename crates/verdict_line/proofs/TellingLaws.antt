@@ -6,10 +6,9 @@ use mathlib.Core.Path.{_≡_, refl, sym, ap, _∙_, subst}
 use mathlib.Core.List.{List, [], _∷_, _++_}
 use lib.ListN.{length, drop, length-append}
 use Rattle.lists.specs.Member.{_∈_}
-use Rattle.log_format.specs.Bytes.{Bytes, splice}
+use Rattle.log_format.specs.Bytes.{Bytes, splice, stampBytes}
 use Rattle.line_format.specs.Decimals.{bytes}
 use Rattle.graph_theory.specs.Verdict.{accepted, cycle}
-use Rattle.order_rules.specs.Fields.{stampBytes}
 use Rattle.order_rules.specs.Reading.{stampsAt}
 use Rattle.order_rules.proofs.ReadingLaws.{stamps-read}
 use Rattle.checker_rules.specs.Answers.{Answer, no, judged, answerFor, stampsFor, checkedOf, Small, CheckIs}
