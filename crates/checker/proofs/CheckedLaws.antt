@@ -84,8 +84,5 @@ module _ (s keys next head vals : List ℕ) (rows : ℕ) (by : Bytes s) (r : Rea
         (g .answered (r .log) (vsOf (fieldsOf order)) (r .passes) vo k′)
 
     -- as the checker says it
-    pub accepted-as : Bytes order → q ≡ true → 4 * count ≤ length b → length nodes ≡ 256 → (f : Found) (b′ : List ℕ) → GraphIs s nodes rank count b f b′ → (i : ℕ) → f ≡ Found·Accepted i → CheckIs s order b (Accepted i) b′
-    accepted-as by′ e l w f b′ g i h = subst (λ (x : Found). CheckIs s order b (saidOf x) b′) h (checked by′ e l w f b′ g)
-
-    pub cycle-as : Bytes order → q ≡ true → 4 * count ≤ length b → length nodes ≡ 256 → (f : Found) (b′ : List ℕ) → GraphIs s nodes rank count b f b′ → (i : ℕ) → f ≡ Found·Cycle i → CheckIs s order b (Cycle i) b′
-    cycle-as by′ e l w f b′ g i h = subst (λ (x : Found). CheckIs s order b (saidOf x) b′) h (checked by′ e l w f b′ g)
+    pub checked-as : Bytes order → q ≡ true → 4 * count ≤ length b → length nodes ≡ 256 → (f : Found) (b′ : List ℕ) → GraphIs s nodes rank count b f b′ → (x : Found) → f ≡ x → CheckIs s order b (saidOf x) b′
+    checked-as by′ e l w f b′ g x h = subst (λ (y : Found). CheckIs s order b (saidOf y) b′) h (checked by′ e l w f b′ g)

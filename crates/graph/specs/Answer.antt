@@ -13,11 +13,7 @@ use Rattle.taking.specs.Nodes.{indices}
 use Rattle.graph.specs.declared.Found.{Found}
 use Rattle.graph.specs.declared.Found.the-variants.{Accepted, Cycle}
 
--- the page's code for each answer, and its number
-abbrev pub foundCode : Found → ℕ
-foundCode (Accepted n) = 0
-foundCode (Cycle n) = 30
-
+-- how many stamps an answer has
 abbrev pub foundNumber : Found → ℕ
 foundNumber (Accepted n) = n
 foundNumber (Cycle n) = n

@@ -31,6 +31,7 @@ fn predecessor(mat: &[u8], deg: &[u16], count: usize, at: usize) -> usize
     j
 }
 
+// A node's number, as wide as a place.
 pub fn wide(x: u16) -> usize
     ensures { λ r. ⌜ r ≡ x ⌝ }
 {

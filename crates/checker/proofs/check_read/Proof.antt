@@ -5,7 +5,7 @@ use Prim.Native.Nat.{ℕ}
 use lib.ListN.{getD-replicate, length-replicate}
 use Rattle.log_format.specs.Bytes.{Bytes}
 use Rattle.checker.proofs.OrderedLaws.{ready, few}
-use Rattle.checker.proofs.CheckedLaws.{tables, order-wrong, no-room-left, accepted-as, cycle-as}
+use Rattle.checker.proofs.CheckedLaws.{tables, order-wrong, no-room-left, checked-as}
 use borrow.Author.Needs.{needs}
 use Rattle.checker.proofs.check_read.Statement.{statement}
 use Rattle.checker.proofs.check_read.Tie as tie
@@ -63,7 +63,7 @@ returns-2 : tie.Need-returns-2
 returns-2 c =
     let b : Bytes (c .before .before .before .before .before .before .before .before .before .before .before .before .before .before .before .before .before .before .before .before .before .before .before .before .before .args .log .now) = λ i. c .before .before .before .before .before .before .before .before .before .before .before .before .before .before .before .before .before .before .before .before .before .before .before .before .shared-slice-known .given i .fits in
     let o : Bytes (c .before .before .before .before .before .before .before .before .before .before .before .before .before .before .before .before .before .before .before .before .before .before .before .before .before .args .order .now) = λ i. c .before .before .before .before .before .before .before .before .before .before .before .before .before .before .before .before .before .before .before .before .before .before .before .shared-slice-known2 .given i .fits in
-    accepted-as _ _ _ _ _ _ b (c .before .before .before .before .before .before .before .before .before .before .before .before .before .before .before .before .before .before .before .before .before .before .before .before .before .pre) _ _ _ (c .before .before .before .before .before .before .before .before .before .before .before .before .before .before .before .before .gather .ensures) _ _ _ (c .before .before .before .before .before .before .before .before .before .before .before .before .ranks .ensures) _ o (c .before .before .before .before .before .before .before .before .before .before .if1 .taken) (c .before .before .before .before .before .before .before .before .before .if2 .left) (c .before .before .before .before .before .before .before .before .before .before .before .before .before .before .before .before .gather .kept .1 .0) _ _ (c .before .before .before .before .before .check-graph .ensures) _ (c .before .f .given .1)
+    checked-as _ _ _ _ _ _ b (c .before .before .before .before .before .before .before .before .before .before .before .before .before .before .before .before .before .before .before .before .before .before .before .before .before .pre) _ _ _ (c .before .before .before .before .before .before .before .before .before .before .before .before .before .before .before .before .gather .ensures) _ _ _ (c .before .before .before .before .before .before .before .before .before .before .before .before .ranks .ensures) _ o (c .before .before .before .before .before .before .before .before .before .before .if1 .taken) (c .before .before .before .before .before .before .before .before .before .if2 .left) (c .before .before .before .before .before .before .before .before .before .before .before .before .before .before .before .before .gather .kept .1 .0) _ _ (c .before .before .before .before .before .check-graph .ensures) _ (c .before .f .given .1)
 
 same-length-2 : tie.Need-same-length-2
 same-length-2 c = search needs
@@ -72,7 +72,7 @@ returns-3 : tie.Need-returns-3
 returns-3 c =
     let b : Bytes (c .before .before .before .before .before .before .before .before .before .before .before .before .before .before .before .before .before .before .before .before .before .before .before .before .before .args .log .now) = λ i. c .before .before .before .before .before .before .before .before .before .before .before .before .before .before .before .before .before .before .before .before .before .before .before .before .shared-slice-known .given i .fits in
     let o : Bytes (c .before .before .before .before .before .before .before .before .before .before .before .before .before .before .before .before .before .before .before .before .before .before .before .before .before .args .order .now) = λ i. c .before .before .before .before .before .before .before .before .before .before .before .before .before .before .before .before .before .before .before .before .before .before .before .shared-slice-known2 .given i .fits in
-    cycle-as _ _ _ _ _ _ b (c .before .before .before .before .before .before .before .before .before .before .before .before .before .before .before .before .before .before .before .before .before .before .before .before .before .pre) _ _ _ (c .before .before .before .before .before .before .before .before .before .before .before .before .before .before .before .before .gather .ensures) _ _ _ (c .before .before .before .before .before .before .before .before .before .before .before .before .ranks .ensures) _ o (c .before .before .before .before .before .before .before .before .before .before .if1 .taken) (c .before .before .before .before .before .before .before .before .before .if2 .left) (c .before .before .before .before .before .before .before .before .before .before .before .before .before .before .before .before .gather .kept .1 .0) _ _ (c .before .before .before .before .before .check-graph .ensures) _ (c .before .f2 .given .1)
+    checked-as _ _ _ _ _ _ b (c .before .before .before .before .before .before .before .before .before .before .before .before .before .before .before .before .before .before .before .before .before .before .before .before .before .pre) _ _ _ (c .before .before .before .before .before .before .before .before .before .before .before .before .before .before .before .before .gather .ensures) _ _ _ (c .before .before .before .before .before .before .before .before .before .before .before .before .ranks .ensures) _ o (c .before .before .before .before .before .before .before .before .before .before .if1 .taken) (c .before .before .before .before .before .before .before .before .before .if2 .left) (c .before .before .before .before .before .before .before .before .before .before .before .before .before .before .before .before .gather .kept .1 .0) _ _ (c .before .before .before .before .before .check-graph .ensures) _ (c .before .f2 .given .1)
 
 returns-4 : tie.Need-returns-4
 returns-4 c =
