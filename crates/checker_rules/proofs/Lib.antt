@@ -3,3 +3,4 @@ pub mod VerdictLaws
 pub mod OrderLaws
 pub mod EachLaws
 pub mod PanelLaws
+pub mod LeavesLaws

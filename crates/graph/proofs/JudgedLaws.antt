@@ -4,7 +4,7 @@
 use Prim.Native.Nat.{ℕ, _+_, _-_, _*_, _≤_, _<_}
 use native.Mathlib.Omega.{arith}
 use mathlib.Core.Path.{_≡_, refl, sym, _∙_, ap, subst}
-use mathlib.Core.Logic.{inr, _≢_}
+use mathlib.Core.Logic.{_≢_}
 use mathlib.Core.List.{List, [], _∷_, _++_, List·Memᴰ·head}
 use mathlib.Core.Bool.{Bool, true, false}
 use lib.Dec.{ltb}
@@ -12,23 +12,21 @@ use lib.ListN.{length, take, getD, length-append, length-map}
 use lib.Seq.{slice, slice-empty, length-slice, length-take-le}
 use borrow.Author.Tests.{ltb-true, ltb-false}
 use Rattle.lists.specs.Member.{_∈_}
-use Rattle.log_format.specs.Bytes.{stampBytes, splice}
-use Rattle.log_format.proofs.StampBytesLaws.{length-stampBytes}
-use Rattle.log_format.proofs.AppendLaws.{length-splice, splice-other}
+use Rattle.log_format.specs.Bytes.{splice}
 use Rattle.graph_theory.specs.Graph.{Decides, Cycle}
 use Rattle.graph_theory.specs.Taking.{TakesAny, takeAll}
 use Rattle.graph_theory.specs.Walking.{walked, smallestFirst}
-use Rattle.graph_theory.specs.Verdict.{Verdict, accepted, cycle, stampsOf, judge, verdictOf}
+use Rattle.graph_theory.specs.Verdict.{Verdict, accepted, cycle, judge, verdictOf}
 use Rattle.graph_theory.specs.Standing.{renamed}
 use Rattle.graph_theory.proofs.TakingLaws.{takes-any, taken-in, left-stuck, left-rising, takeAll-rule}
 use Rattle.graph_theory.proofs.WalkingLaws.{walks-cycle, walked-rule}
 use Rattle.taking.specs.Nodes.{indices, leftOf}
 use Rattle.taking.specs.Taken.{Taken}
 use Rattle.walking.specs.Walked.{partOf, Walked}
-use Rattle.graph.specs.Answer.{AllBelow, Turned, foundOf, foundNumber, Answered}
+use Rattle.graph.specs.Answer.{AllBelow, Turned, Answered}
 use Rattle.walking.specs.declared.Span.{Span}
 use Rattle.graph.specs.declared.Found.{Found}
-use Rattle.graph.specs.declared.Found.the-variants.{Accepted, Cycle as Ring}
+use Rattle.graph.specs.declared.Found.the-variants.{Accepted}
 use Rattle.taking.proofs.NodesLaws.{index-below, upFrom-rising, left-in}
 use Rattle.taking.proofs.TakenLaws.{empty}
 use Rattle.graph.proofs.AnswerLaws.{nodeBytes, in-slice, turn-least}
@@ -122,25 +120,3 @@ module _ (E : ℕ → ℕ → Bool) (n r : ℕ) (o d : List ℕ) (v : Taken E n 
         ap (judge E order) (sym (v .left) ∙ q .1 .1) ∙ ap (λ (u : List ℕ). cycle (smallestFirst (walked E u))) (sym (q .1 .1)) ∙ ap cycle y in
         let c : length p ≡ s .end - s .start = omega (arith, length-append (slice (t .place) (s .end) after) (slice (s .start) (t .place) after), length-slice (t .place) (s .end) after wide, length-slice (s .start) (t .place) after (omega (arith, t .least .high)), t .least .low, t .least .high) in
         rw z (record { found = ap Ring (sym (length-map p (λ (k : ℕ). getD nodes k 0) ∙ c)); bytes = t .is })
-
--- ---- what an answer leaves as it was
-
-found-number : (v : Verdict) → foundNumber (foundOf v) ≡ length (stampsOf v)
-found-number (accepted o) = refl
-found-number (cycle c) = refl
-
-module _ (v : Verdict) (answer after : List ℕ) (r : Found) (a : Answered v answer after r) where
-  -- the number is that of the stamps written
-  pub answered-number : foundNumber r ≡ length (stampsOf v)
-  answered-number = ap foundNumber (a .found) ∙ found-number v
-
-  module _ (h : 4 * length (stampsOf v) ≤ length answer) where
-    fits : 0 + length (stampBytes (stampsOf v)) ≤ length answer
-    fits = omega (arith, length-stampBytes (stampsOf v))
-
-    -- bytes past the last stamp never change
-    pub answered-rest : (i : ℕ) → 4 * foundNumber r ≤ i → getD after i 0 ≡ getD answer i 0
-    answered-rest i g = ap (λ (l : List ℕ). getD l i 0) (a .bytes) ∙ splice-other answer 0 (stampBytes (stampsOf v)) fits i (inr (omega (arith, length-stampBytes (stampsOf v), answered-number)))
-
-    pub answered-length : length after ≡ length answer
-    answered-length = ap length (a .bytes) ∙ length-splice answer 0 (stampBytes (stampsOf v)) fits
