@@ -26,7 +26,7 @@ use Rattle.walking.specs.Walked.{partOf, Walked}
 use Rattle.graph.specs.Answer.{AllBelow, Turned, Answered}
 use Rattle.walking.specs.declared.Span.{Span}
 use Rattle.graph.specs.declared.Found.{Found}
-use Rattle.graph.specs.declared.Found.the-variants.{Accepted}
+use Rattle.graph.specs.declared.Found.the-variants.{Accepted, Cycle as Ring}
 use Rattle.taking.proofs.NodesLaws.{index-below, upFrom-rising, left-in}
 use Rattle.taking.proofs.TakenLaws.{empty}
 use Rattle.graph.proofs.AnswerLaws.{nodeBytes, in-slice, turn-least}

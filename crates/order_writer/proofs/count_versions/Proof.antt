@@ -1,3 +1,5 @@
+-- `order_writer::count_versions` meets its contract: the loop's invariant is the number of versions among the first i nodes; the measure is what is left of them.
+-- Assumes nothing.
 use mathlib.Core.Path.{ap}
 use mir.Val.{boolByte}
 use Rattle.order_writer.proofs.WritingLaws.{versions-next, flag-few}
@@ -11,9 +13,6 @@ use Rattle.version_order.specs.Judging.{wroteIn}
 use Rattle.order_writer.proofs.WritingLaws.{versions-next}
 use Rattle.order_writer.proofs.count_versions.Statement.{statement}
 use Rattle.order_writer.proofs.count_versions.Tie as tie
-use Rattle.order_writer.proofs.count_versions.Reads as reads
-use Rattle.order_writer.proofs.count_versions.Lts as lts
-use Rattle.version_order.proofs.wrote.Reads as wrote-reads
 
 abbrev Inv-loop : tie.InvT-loop
 Inv-loop keys next head vals n nodes count item versions₀ i₀ versions i = (versions ≡ length (versionsBy (wroteIn keys vals n) (take i nodes) item)) × (i ≤ count) × (versions ≤ i)
@@ -21,42 +20,33 @@ Inv-loop keys next head vals n nodes count item versions₀ i₀ versions i = (v
 abbrev μ-loop : tie.MeasureT-loop
 μ-loop keys next head vals n nodes count item versions₀ i₀ versions i = count - i
 
--- src/lib.rt:40:5
 loop-holds : tie.Need-loop-holds Inv-loop μ-loop
 unfolding versionsBy
 loop-holds c = (refl, search needs, search needs)
 
--- src/lib.rt:41:54
 mul-wrote : tie.Need-mul-wrote Inv-loop μ-loop
 mul-wrote c = search needs
 
--- src/lib.rt:41:54
 shared-slice-read-wrote : tie.Need-shared-slice-read-wrote Inv-loop μ-loop
 shared-slice-read-wrote c = search needs
 
--- src/lib.rt:41:21
 wrote-requires : tie.Need-wrote-requires Inv-loop μ-loop
 wrote-requires c κs = search needs
 
--- src/lib.rt:41:21
 cast-versions : tie.Need-cast-versions Inv-loop μ-loop
 cast-versions c = search needs
 
--- src/lib.rt:41:9
 add-versions : tie.Need-add-versions Inv-loop μ-loop
 add-versions c =
     let h = flag-few (c .wrote .result) in
     omega arith
 
--- src/lib.rt:42:9
 add-i : tie.Need-add-i Inv-loop μ-loop
 add-i c = search needs
 
--- src/lib.rt:40:5
 loop-less : tie.Need-loop-less Inv-loop μ-loop
 loop-less c = search needs
 
--- src/lib.rt:40:5
 loop-again : tie.Need-loop-again Inv-loop μ-loop
 loop-again c =
     let a = c .before .before .before .before .before .before .before .before .before .args in
@@ -67,7 +57,6 @@ loop-again c =
     let v = versions-next (wroteIn (a .keys .now) (a .vals .now) (a .n)) (a .item) (a .nodes .now) (a .count) (c .before .before .before .before .before .before .before .before .before .pre .within) (m .i) (c .before .before .loop-test .taken) in
     (omega arith, omega arith, omega arith)
 
--- src/lib.rt:25:1
 returns : tie.Need-returns Inv-loop μ-loop
 returns c =
     let e : c .before .loop .i ≡ c .before .before .before .before .before .before .before .args .count = omega arith in

@@ -1,3 +1,5 @@
+-- `order_writer::needed` meets its contract: the loop's invariant is the bytes of the fields of the items so far; the measure is what is left of the items.
+-- Assumes nothing.
 use borrow.Author.Needs.{needs}
 use native.Mathlib.Omega.{arith}
 use Prim.Native.Nat.{_-_, _+_, _*_, _≤_}
@@ -11,10 +13,6 @@ use Rattle.order_writer.specs.Writing.{sizeOf}
 use Rattle.order_writer.proofs.WritingLaws.{length-next, order-none, order-all}
 use Rattle.order_writer.proofs.needed.Statement.{statement}
 use Rattle.order_writer.proofs.needed.Tie as tie
-use Rattle.order_writer.proofs.needed.Reads as reads
-use Rattle.order_writer.proofs.needed.Lts as lts
-use Rattle.order_writer.proofs.count_versions.Reads as count-versions-reads
-use Rattle.order_writer.proofs.field_size.Reads as field-size-reads
 
 abbrev Inv-loop : tie.InvT-loop
 Inv-loop keys next head vals n nodes count size₀ item₀ size item =
@@ -23,34 +21,27 @@ Inv-loop keys next head vals n nodes count size₀ item₀ size item =
 abbrev μ-loop : tie.MeasureT-loop
 μ-loop keys next head vals n nodes count size₀ item₀ size item = allItems - item
 
--- src/lib.rt:73:5
 loop-holds : tie.Need-loop-holds Inv-loop μ-loop
 loop-holds c =
     let a = c .before .before .before .before .before .args in
     let e = ap length (order-all (wroteIn (a .keys .now) (a .vals .now) (a .n)) (take (a .count) (a .nodes .now))) in
     (omega arith, omega arith, omega arith)
 
--- src/lib.rt:74:28
 count-versions-requires : tie.Need-count-versions-requires Inv-loop μ-loop
 count-versions-requires c κs = search needs
 
--- src/lib.rt:74:17
 field-size-requires : tie.Need-field-size-requires Inv-loop μ-loop
 field-size-requires c κs = search needs
 
--- src/lib.rt:74:9
 add-size : tie.Need-add-size Inv-loop μ-loop
 add-size c = search needs
 
--- src/lib.rt:75:9
 add-item : tie.Need-add-item Inv-loop μ-loop
 add-item c = search needs
 
--- src/lib.rt:73:5
 loop-less : tie.Need-loop-less Inv-loop μ-loop
 loop-less c = search needs
 
--- src/lib.rt:73:5
 loop-again : tie.Need-loop-again Inv-loop μ-loop
 loop-again c =
     let a = c .before .before .before .before .before .before .before .before .before .args in
@@ -61,7 +52,6 @@ loop-again c =
     let q = c .field-size .ensures .1 in
     (omega arith, omega arith, omega arith)
 
--- src/lib.rt:59:1
 returns : tie.Need-returns Inv-loop μ-loop
 returns c =
     let a = c .before .before .before .before .before .before .before .args in

@@ -1,3 +1,5 @@
+-- `order_writer::put_field` meets its contract: the front and then the stamps are one write; an item without a version writes nothing.
+-- Assumes nothing.
 use native.Mathlib.Omega.{arith}
 use lib.ListN.{take}
 use Rattle.order_rules.specs.Timestamps.{versionsBy}
@@ -6,43 +8,31 @@ use Rattle.order_writer.proofs.WritingLaws.{field-empty, front-room, st
 use borrow.Author.Needs.{needs}
 use Rattle.order_writer.proofs.put_field.Statement.{statement}
 use Rattle.order_writer.proofs.put_field.Tie as tie
-use Rattle.order_writer.proofs.put_field.Reads as reads
-use Rattle.order_writer.proofs.put_field.Lts as lts
-use Rattle.order_writer.proofs.count_versions.Reads as count-versions-reads
-use Rattle.order_writer.proofs.put_front.Reads as put-front-reads
-use Rattle.order_writer.proofs.put_stamps.Reads as put-stamps-reads
 
--- src/lib.rt:157:9
 count-versions-requires : tie.Need-count-versions-requires
 count-versions-requires c κs = search needs
 
--- src/lib.rt:159:9
 returns : tie.Need-returns
 returns c =
     let a = c .before .before .before .before .before .before .before .before .args in
     field-empty (a .item) (versionsBy (wroteIn (a .keys .now) (a .vals .now) (a .n)) (take (a .count) (a .nodes .now)) (a .item)) _ (c .before .count-versions .ensures .0) (a .out .now) (a .at) (c .if1 .taken)
 
--- src/lib.rt:161:5
 put-front-requires : tie.Need-put-front-requires
 put-front-requires c κs =
     let a = c .before .before .before .before .before .before .before .before .before .args in
     (front-room (a .item) (versionsBy (wroteIn (a .keys .now) (a .vals .now) (a .n)) (take (a .count) (a .nodes .now)) (a .item)) _ (c .before .before .count-versions .ensures .0) (a .out .now) (a .at) (c .before .if1 .left) (c .before .before .before .before .before .before .before .before .before .pre .2), omega arith)
 
--- src/lib.rt:162:68
 add-put-stamps : tie.Need-add-put-stamps
 add-put-stamps c = search needs
 
--- src/lib.rt:162:5
 put-stamps-requires : tie.Need-put-stamps-requires
 put-stamps-requires c κs =
     let a = c .before .before .before .before .before .before .before .before .before .before .before .before .before .args in
     (c .before .before .before .before .before .before .before .before .before .before .before .before .before .pre .0, stamps-room (a .item) (versionsBy (wroteIn (a .keys .now) (a .vals .now) (a .n)) (take (a .count) (a .nodes .now)) (a .item)) _ (c .before .before .before .before .before .before .count-versions .ensures .0) (a .out .now) (a .at) (c .before .before .before .before .before .if1 .left) (c .before .before .before .before .before .before .before .before .before .before .before .before .before .pre .2) _ (c .before .before .before .put-front .ensures))
 
--- src/lib.rt:142:1
 same-length : tie.Need-same-length
 same-length c = search needs
 
--- src/lib.rt:142:1
 returns-2 : tie.Need-returns-2
 returns-2 c =
     let a = c .before .before .before .before .before .before .before .before .before .before .before .before .before .before .before .before .args in

@@ -1,3 +1,5 @@
+-- `order_writer::put_if` meets its contract: four stores in a row are one write; where the node did not write the item, nothing is written.
+-- Assumes nothing.
 use native.Mathlib.Omega.{arith}
 use Prim.Native.Nat.{_+_, _≤_}
 use mathlib.Core.Path.{_≡_, sym, _∙_}
@@ -9,36 +11,26 @@ use Rattle.order_writer.proofs.WritingLaws.{placed-stamp, placed-none, 
 use borrow.Author.Needs.{needs}
 use Rattle.order_writer.proofs.put_if.Statement.{statement}
 use Rattle.order_writer.proofs.put_if.Tie as tie
-use Rattle.order_writer.proofs.put_if.Reads as reads
-use Rattle.order_writer.proofs.put_if.Lts as lts
-use Rattle.log_writer.proofs.put4.Reads as put4-reads
-use Rattle.version_order.proofs.wrote.Reads as wrote-reads
 
--- src/lib.rt:109:8
 wrote-requires : tie.Need-wrote-requires
 wrote-requires c κs = search needs
 
--- src/lib.rt:110:9
 put4-requires : tie.Need-put4-requires
 put4-requires c κs =
     let a = c .before .before .before .before .before .before .before .before .args in
     stamp-room (wroteIn (a .keys .now) (a .vals .now) (a .n)) (a .item) (a .stamp) (a .out .now) (a .at) (sym (c .before .before .wrote .ensures) ∙ c .before .if1 .taken) (c .before .before .before .before .before .before .before .before .pre .1)
 
--- src/lib.rt:111:16
 add-result : tie.Need-add-result
 add-result c = search needs
 
--- src/lib.rt:111:9
 same-length : tie.Need-same-length
 same-length c = search needs
 
--- src/lib.rt:111:9
 returns : tie.Need-returns
 returns c =
     let a = c .before .before .before .before .before .before .before .before .before .before .before .args in
     placed-stamp (wroteIn (a .keys .now) (a .vals .now) (a .n)) (a .item) (a .stamp) (a .out .now) (a .at) _ (sym (c .before .before .before .before .before .wrote .ensures) ∙ c .before .before .before .before .if1 .taken) (c .before .before .put4 .ensures)
 
--- src/lib.rt:95:1
 returns-2 : tie.Need-returns-2
 returns-2 c =
     let a = c .before .before .before .before .before .before .before .args in

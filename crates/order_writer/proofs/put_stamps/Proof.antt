@@ -1,3 +1,5 @@
+-- `order_writer::put_stamps` meets its contract: the loop's invariant is that the stamps of the first i nodes are written; the measure is what is left of them.
+-- Assumes nothing.
 use borrow.Author.Needs.{needs}
 use native.Mathlib.Omega.{arith}
 use Prim.Native.Nat.{_-_, _+_, _≤_}
@@ -11,9 +13,6 @@ use Rattle.order_writer.specs.Writing.{stampIf}
 use Rattle.order_writer.proofs.WritingLaws.{Writing, writing-none, writing-room, writing-next, writing-end, piece-room, stamps-next, stamps-none}
 use Rattle.order_writer.proofs.put_stamps.Statement.{statement}
 use Rattle.order_writer.proofs.put_stamps.Tie as tie
-use Rattle.order_writer.proofs.put_stamps.Reads as reads
-use Rattle.order_writer.proofs.put_stamps.Lts as lts
-use Rattle.order_writer.proofs.put_if.Reads as put-if-reads
 
 abbrev Inv-loop : tie.InvT-loop
 Inv-loop keys next head vals n nodes count item out₀ at to₀ i₀ out to i =
@@ -22,19 +21,15 @@ Inv-loop keys next head vals n nodes count item out₀ at to₀ i₀ out to i =
 abbrev μ-loop : tie.MeasureT-loop
 μ-loop keys next head vals n nodes count item out₀ at to₀ i₀ out to i = count - i
 
--- src/lib.rt:134:5
 loop-holds : tie.Need-loop-holds Inv-loop μ-loop
 loop-holds c = (writing-none (c .before .before .before .before .before .before .args .out .now) (c .before .before .before .before .before .before .args .at) _, search needs)
 
--- src/lib.rt:135:48
 mul-put-if : tie.Need-mul-put-if Inv-loop μ-loop
 mul-put-if c = search needs
 
--- src/lib.rt:135:48
 shared-slice-read-put-if : tie.Need-shared-slice-read-put-if Inv-loop μ-loop
 shared-slice-read-put-if c = search needs
 
--- src/lib.rt:135:9
 put-if-requires : tie.Need-put-if-requires Inv-loop μ-loop
 put-if-requires c κs =
     let a = c .before .before .before .before .before .before .before .before .before .before .args in
@@ -44,15 +39,12 @@ put-if-requires c κs =
     let r = writing-room (a .out .now) (a .at) (stampBytes (versionsBy wr (take (a .count) (a .nodes .now)) (a .item))) (c .before .before .before .before .before .before .before .before .before .before .pre .1) _ (m .out) (m .to) (m .inv .0) in
     (c .before .before .before .before .before .before .before .before .before .before .pre .0 .table, piece-room (stampIf wr (a .item) (getD (a .nodes .now) (m .i) 0)) (stampBytes (versionsBy wr (drop (m .i + 1) (take (a .count) (a .nodes .now))) (a .item))) _ (m .to) (length (m .out)) s (r .0))
 
--- src/lib.rt:136:9
 add-i : tie.Need-add-i Inv-loop μ-loop
 add-i c = search needs
 
--- src/lib.rt:134:5
 loop-less : tie.Need-loop-less Inv-loop μ-loop
 loop-less c = search needs
 
--- src/lib.rt:134:5
 loop-again : tie.Need-loop-again Inv-loop μ-loop
 loop-again c =
     let a = c .before .before .before .before .before .before .before .before .before .before .before .before .before .args in
@@ -61,7 +53,6 @@ loop-again c =
     let s = stamps-next wr (a .item) (a .nodes .now) (a .count) (c .before .before .before .before .before .before .before .before .before .before .before .before .before .pre .0 .within) (m .i) (c .before .before .before .before .before .loop-test .taken) in
     (writing-next (a .out .now) (a .at) (stampBytes (versionsBy wr (take (a .count) (a .nodes .now)) (a .item))) (c .before .before .before .before .before .before .before .before .before .before .before .before .before .pre .1) _ (m .out) (m .to) (m .inv .0) _ _ s _ _ (c .before .before .put-if .ensures), search needs)
 
--- src/lib.rt:117:1
 same-length : tie.Need-same-length Inv-loop μ-loop
 same-length c =
     let a = c .before .before .before .before .before .before .before .before .args in
@@ -70,7 +61,6 @@ same-length c =
     let r = writing-room (a .out .now) (a .at) (stampBytes (versionsBy wr (take (a .count) (a .nodes .now)) (a .item))) (c .before .before .before .before .before .before .before .before .pre .1) _ (m .out) (m .to) (m .inv .0) in
     r .1
 
--- src/lib.rt:117:1
 returns : tie.Need-returns Inv-loop μ-loop
 returns c =
     let a = c .before .before .before .before .before .before .before .before .args in

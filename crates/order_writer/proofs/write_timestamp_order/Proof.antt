@@ -1,3 +1,5 @@
+-- `order_writer::write_timestamp_order` meets its contract: the order's bytes are counted before one is written; the loop's invariant is that the fields of the items so far stand at the front.
+-- Assumes nothing.
 use Rattle.order_writer.specs.Writing.{fieldBytes}
 use borrow.Author.Needs.{needs}
 use native.Mathlib.Omega.{arith}
@@ -13,10 +15,6 @@ use Rattle.version_order.specs.Judging.{wroteIn}
 use Rattle.order_writer.proofs.WritingLaws.{Writing, writing-none, writing-room, writing-next, writing-end, piece-room, order-next, order-none, order-all, wrote-all}
 use Rattle.order_writer.proofs.write_timestamp_order.Statement.{statement}
 use Rattle.order_writer.proofs.write_timestamp_order.Tie as tie
-use Rattle.order_writer.proofs.write_timestamp_order.Reads as reads
-use Rattle.order_writer.proofs.write_timestamp_order.Lts as lts
-use Rattle.order_writer.proofs.needed.Reads as needed-reads
-use Rattle.order_writer.proofs.put_field.Reads as put-field-reads
 
 abbrev Inv-loop : tie.InvT-loop
 Inv-loop keys next head vals n nodes count out₀ size at₀ item₀ out at item =
@@ -25,24 +23,20 @@ Inv-loop keys next head vals n nodes count out₀ size at₀ item₀ out at item
 abbrev μ-loop : tie.MeasureT-loop
 μ-loop keys next head vals n nodes count out₀ size at₀ item₀ out at item = allItems - item
 
--- src/lib.rt:182:9
 needed-requires : tie.Need-needed-requires Inv-loop μ-loop
 needed-requires c κs = search needs
 
--- src/lib.rt:184:9
 returns : tie.Need-returns Inv-loop μ-loop
 returns c =
     let a = c .before .before .before .before .before .before .before .before .args in
     let e = c .before .needed .ensures in
     no-room (a .out .now) (orderBy (wroteIn (a .keys .now) (a .vals .now) (a .n)) (take (a .count) (a .nodes .now))) (omega arith)
 
--- src/lib.rt:188:5
 loop-holds : tie.Need-loop-holds Inv-loop μ-loop
 loop-holds c =
     let a = c .before .before .before .before .before .before .before .before .args in
     (rw (order-all (wroteIn (a .keys .now) (a .vals .now) (a .n)) (take (a .count) (a .nodes .now))) (writing-none (a .out .now) 0 _), search needs)
 
--- src/lib.rt:189:9
 put-field-requires : tie.Need-put-field-requires Inv-loop μ-loop
 put-field-requires c κs =
     let a = c .before .before .before .before .before .before .before .before .before .before .before .args in
@@ -54,15 +48,12 @@ put-field-requires c κs =
     let r = writing-room (a .out .now) 0 (orderBy wr l) (omega arith) _ (m .out) (m .at) (m .inv .0) in
     (c .before .before .before .before .before .before .before .before .before .before .before .pre .0, c .before .before .before .before .before .before .before .before .before .before .before .pre .1, piece-room (fieldBytes (m .item) (versionsBy wr l (m .item))) (orderOf (fieldsUp (versionsBy wr l) (allItems - (m .item + 1)) (m .item + 1))) _ (m .at) (length (m .out)) s (r .0))
 
--- src/lib.rt:190:9
 add-item : tie.Need-add-item Inv-loop μ-loop
 add-item c = search needs
 
--- src/lib.rt:188:5
 loop-less : tie.Need-loop-less Inv-loop μ-loop
 loop-less c = search needs
 
--- src/lib.rt:188:5
 loop-again : tie.Need-loop-again Inv-loop μ-loop
 loop-again c =
     let a = c .before .before .before .before .before .before .before .before .before .before .before .before .before .before .args in
@@ -73,7 +64,6 @@ loop-again c =
     let s = order-next (versionsBy wr l) (m .item) (c .before .before .before .before .loop-test .taken) in
     (writing-next (a .out .now) 0 (orderBy wr l) (omega arith) _ (m .out) (m .at) (m .inv .0) _ _ s _ _ (c .before .before .put-field .ensures), search needs)
 
--- src/lib.rt:169:1
 same-length : tie.Need-same-length Inv-loop μ-loop
 same-length c =
     let a = c .before .before .before .before .before .before .before .before .before .before .args in
@@ -84,7 +74,6 @@ same-length c =
     let r = writing-room (a .out .now) 0 (orderBy wr l) (omega arith) _ (m .out) (m .at) (m .inv .0) in
     r .1
 
--- src/lib.rt:169:1
 returns-2 : tie.Need-returns-2 Inv-loop μ-loop
 returns-2 c =
     let a = c .before .before .before .before .before .before .before .before .before .before .args in

@@ -1,3 +1,5 @@
+-- `version_order::all_ranked` meets its contract: the loop's invariant: none of the cells so far is a gap; the measure is what is left of them.
+-- Assumes nothing.
 use borrow.Author.Needs.{needs}
 use borrow.Author.Count.{below-none, below-more}
 use native.Mathlib.Omega.{arith}
@@ -8,9 +10,6 @@ use Rattle.order_rules.proofs.RightLaws.{none-below, some-below}
 use Rattle.version_order.specs.Judging.{wroteIn, gapAt}
 use Rattle.version_order.proofs.all_ranked.Statement.{statement}
 use Rattle.version_order.proofs.all_ranked.Tie as tie
-use Rattle.version_order.proofs.all_ranked.Reads as reads
-use Rattle.version_order.proofs.all_ranked.Lts as lts
-use Rattle.version_order.proofs.gap.Reads as gap-reads
 
 abbrev Inv-loop : tie.InvT-loop
 Inv-loop keys next head vals n nodes count rank cell₀ cell = (cell ≤ count * 64) × ((q : ℕ) → q < cell → gapAt (wroteIn keys vals n) nodes rank q ≡ false)
@@ -18,35 +17,27 @@ Inv-loop keys next head vals n nodes count rank cell₀ cell = (cell ≤ count *
 abbrev μ-loop : tie.MeasureT-loop
 μ-loop keys next head vals n nodes count rank cell₀ cell = count * 64 - cell
 
--- src/lib.rt:188:5
 loop-holds : tie.Need-loop-holds Inv-loop μ-loop
 loop-holds c = (search needs, λ q h. absurd (omega arith))
 
--- src/lib.rt:188:18
 mul-loop : tie.Need-mul-loop Inv-loop μ-loop
 mul-loop c = search needs
 
--- src/lib.rt:189:12
 gap-requires : tie.Need-gap-requires Inv-loop μ-loop
 gap-requires c κs = search needs
 
--- src/lib.rt:190:13
 returns : tie.Need-returns Inv-loop μ-loop
 returns c = sym (ap not (some-below _ _ (c .before .before .before .loop .cell) (omega arith) (sym (c .before .gap .ensures) ∙ c .if1 .taken)))
 
--- src/lib.rt:192:9
 add-cell : tie.Need-add-cell Inv-loop μ-loop
 add-cell c = search needs
 
--- src/lib.rt:188:5
 loop-less : tie.Need-loop-less Inv-loop μ-loop
 loop-less c = search needs
 
--- src/lib.rt:188:5
 loop-again : tie.Need-loop-again Inv-loop μ-loop
 loop-again c = (search needs, below-more _ _ (c .before .before .before .loop .inv .1) (sym (c .before .gap .ensures) ∙ c .if1 .left))
 
--- src/lib.rt:174:1
 returns-2 : tie.Need-returns-2 Inv-loop μ-loop
 returns-2 c =
     let l = c .before .loop .inv in

@@ -1,40 +1,31 @@
+-- `version_order::gap` meets its contract: a committed version has a rank, or it is a gap.
+-- Assumes nothing.
 use borrow.Author.Tests.{eq-eqb, ne-eqb}
 use borrow.Author.Needs.{needs}
 use Rattle.version_order.proofs.gap.Statement.{statement}
 use Rattle.version_order.proofs.gap.Tie as tie
-use Rattle.version_order.proofs.gap.Reads as reads
-use Rattle.version_order.proofs.gap.Lts as lts
-use Rattle.version_order.proofs.wrote.Reads as wrote-reads
 
--- src/lib.rt:167:8
 mul-if1 : tie.Need-mul-if1
 mul-if1 c = search needs
 
--- src/lib.rt:167:8
 shared-slice-read-if1 : tie.Need-shared-slice-read-if1
 shared-slice-read-if1 c = search needs
 
--- src/lib.rt:168:49
 mul-wrote : tie.Need-mul-wrote
 mul-wrote c = search needs
 
--- src/lib.rt:168:49
 shared-slice-read-wrote : tie.Need-shared-slice-read-wrote
 shared-slice-read-wrote c = search needs
 
--- src/lib.rt:168:70
 cast-wrote : tie.Need-cast-wrote
 cast-wrote c = search needs
 
--- src/lib.rt:168:9
 wrote-requires : tie.Need-wrote-requires
 wrote-requires c κs = search needs
 
--- src/lib.rt:168:9
 returns : tie.Need-returns
 returns c = rw (eq-eqb _ _ (c .before .before .if1 .taken)) (c .wrote .ensures)
 
--- src/lib.rt:154:1
 returns-2 : tie.Need-returns-2
 returns-2 c = rw (ne-eqb _ _ (c .if1 .left))
 
