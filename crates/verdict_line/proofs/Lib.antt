@@ -1,3 +1,2 @@
 pub mod SpacedLaws
 pub mod TellingLaws
-pub mod Computed

@@ -15,7 +15,7 @@ use Rattle.order_rules.specs.Reading.{stampsAt}
 use Rattle.order_rules.proofs.ReadingLaws.{length-stampsAt, stamps-fit}
 use Rattle.reply_lines.specs.Written.{Put}
 use Rattle.reply_lines.proofs.PutLaws.{put-then}
-use Rattle.verdict_line.specs.Lines.{spaced, eachSpaced}
+use Rattle.verdict_format.specs.Lines.{spaced, eachSpaced}
 
 -- ---- lists of numbers
 

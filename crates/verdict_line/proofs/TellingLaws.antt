@@ -19,7 +19,8 @@ use Rattle.reply_lines.specs.Written.{Put, Written}
 use Rattle.reply_lines.proofs.PutLaws.{put-written}
 use Rattle.checker_rules.proofs.EachLaws.{stamps-few, stamps-small}
 use Rattle.checker_rules.proofs.PanelLaws.{small}
-use Rattle.verdict_line.specs.Lines.{spaced, eachSpaced, listed, refusal, verdictLine, longest, lineOf, Few}
+use Rattle.verdict_format.specs.Lines.{spaced, eachSpaced, listed, refusal, verdictLine, longest}
+use Rattle.verdict_line.specs.Told.{lineOf, Few}
 use Rattle.verdict_line.proofs.SpacedLaws.{spaced-short, each-short}
 
 -- ---- what the code wrote, for each answer

@@ -7,7 +7,8 @@ ghost use Rattle.line_format.specs.Decimals.{digits};
 ghost use Rattle.reply_lines.specs.Written.{Put, Written};
 ghost use Rattle.order_rules.specs.Reading.{stampsAt};
 ghost use Rattle.checker_rules.specs.Answers.{answerFor};
-ghost use Rattle.verdict_line.specs.Lines.{spaced, eachSpaced, listed, refusal, verdictLine, lineOf, Few};
+ghost use Rattle.verdict_format.specs.Lines.{spaced, eachSpaced, listed, refusal, verdictLine};
+ghost use Rattle.verdict_line.specs.Told.{lineOf, Few};
 
 // Writes a number after a space at a place where it fits, and answers the place after it.
 fn put_spaced(out: &mut [u8], at: usize, n: u64) -> usize

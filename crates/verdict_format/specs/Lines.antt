@@ -1,14 +1,11 @@
 -- The one line that the check program prints: `accepted` or `cycle` and the stamps, each after a space, or `refused`, code and number.
 -- Assumes nothing.
-use Prim.Native.Nat.{ℕ, _≤_}
+use Prim.Native.Nat.{ℕ}
 use mathlib.Core.Path.{_≡_}
 use mathlib.Core.List.{List, [], _∷_, _++_}
 use Rattle.line_format.specs.Decimals.{bytes, digits}
 use Rattle.graph_theory.specs.Verdict.{accepted, cycle}
-use Rattle.order_rules.specs.Reading.{stampsAt}
 use Rattle.checker_rules.specs.Answers.{Answer, no, judged}
-use Rattle.checker_rules.specs.declared.Checked.{Checked}
-use Rattle.checker_rules.specs.declared.Checked.the-variants.{Accepted, Cycle, Refused}
 
 -- a number after a space
 abbrev pub spaced : ℕ → List ℕ
@@ -36,19 +33,6 @@ verdictLine (judged (cycle c)) = listed (bytes "cycle") c
 -- the longest one, with 256 stamps
 abbrev pub longest : ℕ
 longest = 2825
-
--- ---- as the code has it: the stamps stand in the answer's bytes
-
-abbrev pub lineOf : Checked → List ℕ → List ℕ
-lineOf (Accepted n) a = listed (bytes "accepted") (stampsAt a 0 n)
-lineOf (Cycle n) a = listed (bytes "cycle") (stampsAt a 0 n)
-lineOf (Refused c p) a = refusal c (p .0)
-
--- at most 256 stamps are told
-abbrev pub Few : Checked → Type 0
-Few (Accepted n) = n ≤ 256
-Few (Cycle n) = n ≤ 256
-Few (Refused c p) = Unit {0}
 
 -- ---- some lines
 

@@ -2,7 +2,7 @@
 -- Assumes nothing.
 use mathlib.Core.Path.{refl}
 use Rattle.line_format.specs.Decimals.{digits, digitsIn}
-use Rattle.verdict_line.specs.Lines.{SomeLines}
+use Rattle.verdict_format.specs.Lines.{SomeLines}
 
 pub some-lines : SomeLines
 unfolding digits digitsIn
