@@ -1,57 +1,40 @@
--- What a caller of `judge` has and gets: slices of zeros can be lent; a verdict says which history the log has; and where it passes, the map answers who
--- committed and what was written.
+-- What a caller of `judge` has and gets: words of zeros can be lent, and an answer says which history the log has.
 -- Assumes nothing.
-use Prim.Native.Nat.{ℕ, _+_, _≤_}
+use Prim.Native.Nat.{ℕ}
 use native.Mathlib.Omega.{arith}
-use mathlib.Core.Path.{_≡_, refl, ap}
-use mathlib.Core.Logic.{_↔_, _≢_}
-use mathlib.Core.List.{List, []}
-use lib.ListN.{replicate, length-replicate}
-use Rattle.log_format.specs.Bytes.{Bytes}
+use mathlib.Core.Path.{_≡_, refl, sym, ap, _∙_}
+use mathlib.Core.List.{List}
+use lib.ListN.{replicate}
 use Rattle.log_format.specs.Events.{Event}
-use Rattle.log_format.specs.Told.{Put, Puts, Done}
 use Rattle.log_format.specs.declared.Place.{Place}
-use Rattle.history_rules.specs.WellFormed.{mostItem, AllRight, countCommits}
-use Rattle.history_rules.specs.Faults as faults
 use Rattle.history_rules.specs.History.{History, passed, refused, historyOf}
-use Rattle.history_rules.proofs.HistoryLaws.{passed-well}
-use Rattle.history_rules.proofs.AskedLaws.{asked-done, asked-put, asked-puts}
-use Rattle.index.specs.Index.{lookup, buckets}
-use Rattle.index.proofs.RowLaws.{empty-table}
-use Rattle.transactions.specs.Transactions.{stageBy, writtenBy}
-use Rattle.history.specs.declared.Verdict.the-variants.{Passed, Refused}
+use Rattle.index.specs.Index.{maxRows, words}
+use Rattle.index.proofs.RowLaws.{empty-table, empty-room, look-empty}
 use Rattle.history.specs.declared.Judged.{Judged}
-use Rattle.history.specs.Judging.{answerOf, maxRows, Lent, Judgement}
+use Rattle.history.specs.declared.Judged.the-variants.{Passed, Refused}
+use Rattle.history.specs.Judging.{judgedOf, Lent, Judgement}
 
--- fresh slices
-pub lent-zeros : (n : ℕ) → maxRows ≤ n → Lent (replicate n 0) (replicate n 0) (replicate buckets 0) (replicate n 0)
-lent-zeros n h = record { table = empty-table n; room = omega (arith, length-replicate {A = ℕ} n 0) }
+-- fresh words
+pub lent-zeros : Lent (replicate words 0)
+lent-zeros = record { table = empty-table words (omega arith); blank = λ k. look-empty words k (omega arith); room = empty-room maxRows words (omega arith) }
 
--- a verdict that passes
-pub answer-passed : (h : History) (n : ℕ) → answerOf h ≡ Passed n → (log : List Event) × (h ≡ passed log) × (n ≡ countCommits log)
-answer-passed (passed log) n e = (log, refl, cc)
-answer-passed (refused c p) n e = let z : _≡_ {A = ℕ} 0 1 = cc in absurd (omega arith)
+module _ {s m : List ℕ} {r : Judged} (j : Judgement s m r) where
+  -- a refusal is the log's
+  pub judged-refused : {c : ℕ} {p : Place} → r ≡ Refused c p → historyOf s ≡ refused c (p .0)
+  judged-refused {c} {p} e = go (historyOf s) refl (sym (j .answer) ∙ e)
+    where
+      go : (h : History) → historyOf s ≡ h → judgedOf h ≡ Refused c p → historyOf s ≡ refused c (p .0)
+      go (passed log) q f = let z : _≡_ {A = ℕ} 0 1 = cc in absurd (omega arith)
+      go (refused d n) q f =
+          let u : d ≡ c = cc in
+          let w : _≡_ {A = Place} (record { 0 = n }) p = cc in
+          let v : n ≡ p .0 = ap (λ (x : Place). x .0) w in
+          q ∙ rw (u, v)
 
--- one that refuses
-pub answer-refused : (h : History) (c : ℕ) (p : Place) → answerOf h ≡ Refused c p → h ≡ refused c (p .0)
-answer-refused (passed log) c p e = let z : _≡_ {A = ℕ} 0 1 = cc in absurd (omega arith)
-answer-refused (refused d q) c p e =
-    let x : d ≡ c = cc in
-    let y : _≡_ {A = Place} (record { 0 = q }) p = cc in
-    let w : q ≡ p .0 = ap (λ (z : Place). z .0) y in
-    cc
-
-module _ (s keys next head vals : List ℕ) (j : Judged) (is : Judgement s keys next head vals j) (b : Bytes s) (log : List Event) (e : historyOf s ≡ passed log) where
-  right : AllRight [] log
-  right = passed-well s b log e .3 .right
-
-  -- who committed
-  pub judged-done : (t : ℕ) → (stageBy keys vals (j .rows) t ≡ faults.committed) ↔ Done t log
-  judged-done = asked-done log right (lookup keys vals (j .rows)) (is .holds log e)
-
-  -- what was written
-  pub judged-put : (t x v : ℕ) → x ≤ mostItem → (writtenBy keys vals (j .rows) t x ≡ v + 1) ↔ Put t x v log
-  judged-put = asked-put log right (lookup keys vals (j .rows)) (is .holds log e)
-
-  pub judged-puts : (t x : ℕ) → x ≤ mostItem → (writtenBy keys vals (j .rows) t x ≢ 0) ↔ Puts t x log
-  judged-puts = asked-puts log right (lookup keys vals (j .rows)) (is .holds log e)
+  -- a log that passes has events
+  pub judged-passed : {k : ℕ} → r ≡ Passed k → (log : List Event) × (historyOf s ≡ passed log)
+  judged-passed {k} e = go (historyOf s) refl (sym (j .answer) ∙ e)
+    where
+      go : (h : History) → historyOf s ≡ h → judgedOf h ≡ Passed k → (log : List Event) × (historyOf s ≡ passed log)
+      go (passed log) q f = (log, q)
+      go (refused d n) q f = let z : _≡_ {A = ℕ} 0 1 = cc in absurd (omega arith)

@@ -1,4 +1,4 @@
--- What the `else` of a `let else` knows, a tag: the record is no read, or no commit, and the verdict does not pass.
+-- What the `else` of a `let else` knows, a tag: the record is no read, or no commit, and the log does not pass.
 -- Assumes nothing.
 use Prim.Native.Nat.{ℕ}
 use native.Mathlib.Omega.{arith}
@@ -12,9 +12,9 @@ use Rattle.log_format.specs.Events.{eventOf}
 use Rattle.log_format.specs.declared.Record.{Record}
 use Rattle.log_format.specs.declared.Record.the-variants.{Begin, Read, Write, Commit, Abort}
 use Rattle.history_rules.specs.History.{dangling}
-use Rattle.history.proofs.Verdict as verdicts
-use Rattle.history.specs.declared.Verdict.{Verdict}
-use Rattle.history.specs.declared.Verdict.the-variants.{Passed, Refused}
+use Rattle.history.proofs.Judged as judged
+use Rattle.history.specs.declared.Judged.{Judged}
+use Rattle.history.specs.declared.Judged.the-variants.{Passed, Refused}
 use Rattle.history.specs.Nodes.{withCommit}
 
 -- the record's tag
@@ -41,11 +41,11 @@ no-commit l (Commit t) (inr (inr (inl e))) = absurd (omega arith)
 no-commit l (Commit t) (inr (inr (inr e))) = absurd (omega arith)
 no-commit l (Abort t c) k = refl
 
--- a verdict that refuses
-abbrev pub NotPassed : Verdict → Type 0
+-- an answer that refuses
+abbrev pub NotPassed : Judged → Type 0
 NotPassed (Passed n) = ⊥
 NotPassed (Refused c p) = Unit {0}
 
-pub no-pass : (v : Verdict) → tagOf verdicts.the-type v ≡ 1 → NotPassed v
+pub no-pass : (v : Judged) → tagOf judged.the-type v ≡ 1 → NotPassed v
 no-pass (Passed n) e = omega arith
 no-pass (Refused c p) e = tt

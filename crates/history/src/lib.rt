@@ -1,7 +1,7 @@
 // The history of a log, codes 21 to 27, and its committed transactions. One walk finds the first bad field and notes every record in a map; a second finds
 // the first read from a transaction that never commits; a third gathers the committed stamps. Each field costs a few lookups in the map, so the whole is
 // near-linear in the log's bytes; a log whose stamps are chosen to share one bucket of the map costs the square of its fields, at most 9,361.
-// Working memory is the caller's: slices of numbers, lent, and left with the map of a log that passes.
+// Working memory is the caller's: words, lent, and left with the map of a log that passes.
 ghost use mathlib.Core.Path.{_≡_};
 ghost use Prim.Native.Nat.{_+_, _≤_};
 ghost use lib.ListN.{length, take};
@@ -10,29 +10,18 @@ ghost use Rattle.log_format.specs.Whole.{maxLog};
 ghost use Rattle.log_format.specs.Events.{eventOf};
 ghost use Rattle.history_rules.specs.WellFormed.{mostCommitted, isCommit, countCommits};
 ghost use Rattle.history_rules.specs.History.{eventsIn, fieldsFrom, dangling};
-ghost use Rattle.index.specs.Index.{Table};
-ghost use Rattle.transactions.specs.Transactions.{stageBy};
+ghost use Rattle.history_rules.specs.Held.{stageIn};
+ghost use Rattle.index.specs.Index.{tableOf, Table};
 ghost use Rattle.history.specs.Judging.{stoppedWith, Lent, Walked, later, Judgement};
 ghost use Rattle.history.specs.Nodes.{Passes, WithCommit, Nodes};
 use log_format::Decoded;
 use log_format::Place;
 use log_format::Record;
 
-// A log's verdict as far as codes 21 to 27 go: it passes, and so many transactions committed; or a code, and the place beside it.
-pub enum Verdict {
+// A log judged as far as codes 21 to 27 go: it passes, and so many transactions committed; or a code, and the place beside it.
+pub enum Judged {
     Passed(usize),
     Refused(u32, Place),
-}
-
-impl Verdict {
-    // No log passes with more committed transactions.
-    pub const MOST_COMMITTED: usize = 256;
-}
-
-// A verdict, and the number of rows of the map.
-pub struct Judged {
-    pub verdict: Verdict,
-    pub rows: usize,
 }
 
 // ---- codes 22 to 25
@@ -59,51 +48,34 @@ fn commits_in(r: Record) -> usize
     }
 }
 
-// What is said where no further record stands, after k commits and with n rows: all fields are right, or a broken one is handed up with its place.
-fn stopped(d: Decoded, n: usize, k: usize) -> Judged
-    ensures { λ r. ⌜ r ≡ stoppedWith d n k ⌝ }
+// What is said where no further record stands, after k commits: all fields are right, or a broken one is handed up with its place.
+fn stopped(d: Decoded, k: usize) -> Judged
+    ensures { λ r. ⌜ r ≡ stoppedWith d k ⌝ }
 {
     match d {
-        Decoded::Field(_, _) => Judged {
-            verdict: Verdict::Passed(k),
-            rows: n,
-        },
-        Decoded::End => Judged {
-            verdict: Verdict::Passed(k),
-            rows: n,
-        },
-        Decoded::Bad(p) => Judged {
-            verdict: Verdict::Refused(22, p),
-            rows: n,
-        },
+        Decoded::Field(_, _) => Judged::Passed(k),
+        Decoded::End => Judged::Passed(k),
+        Decoded::Bad(p) => Judged::Refused(22, p),
     }
 }
 
 // The first bad field with its code, or how many commit; the map then has every record noted.
-fn walk(
-    log: &[u8],
-    keys: &mut [u64],
-    next: &mut [usize],
-    head: &mut [usize],
-    vals: &mut [u64],
-) -> Judged
-    requires { ⌜ (Lent (now keys) (now next) (now head) (now vals)) × ((4 ≤ length (now log)) × (length (now log) ≤ maxLog)) ⌝ }
-    ensures { λ r. ⌜ Walked (now (log .entry)) (now (keys .exit)) (now (next .exit)) (now (head .exit)) (now (vals .exit)) r ⌝ }
+fn walk(log: &[u8], map: &mut [u64]) -> Judged
+    requires { ⌜ (Lent (now map)) × ((4 ≤ length (now log)) × (length (now log) ≤ maxLog)) ⌝ }
+    ensures { λ r. ⌜ Walked (now (log .entry)) (now (map .exit)) r ⌝ }
 {
     let mut at: usize = Place::FIRST;
-    let mut n: usize = 0;
     let mut k: usize = 0;
     loop {
         let d = log_reader::decode_at(log, Place(at));
         let Decoded::Field(r, p) = d else {
-            return stopped(d, n, k);
+            return stopped(d, k);
         };
-        let c = transactions::fault(keys, next, head, vals, n, r);
+        let c = transactions::fault(map, r);
         if c != 0 {
-            let verdict = Verdict::Refused(c, Place(at));
-            return Judged { verdict, rows: n };
+            return Judged::Refused(c, Place(at));
         }
-        n = transactions::note(keys, next, head, vals, n, r);
+        transactions::note(map, r);
         k += commits_in(r);
         at = p.0;
     }
@@ -112,16 +84,9 @@ fn walk(
 // ---- codes 26 and 27
 
 // Whether a record is a read by a committed transaction from one that has not committed.
-fn dangling_read(
-    keys: &[u64],
-    next: &[usize],
-    head: &[usize],
-    vals: &[u64],
-    n: usize,
-    r: Record,
-) -> bool
-    requires { ⌜ Table (now keys) (now next) (now head) (now vals) n ⌝ }
-    ensures { λ b. ⌜ b ≡ dangling (stageBy (now (keys .entry)) (now (vals .entry)) n) (eventOf r) ⌝ }
+fn dangling_read(map: &[u64], r: Record) -> bool
+    requires { ⌜ Table (now map) ⌝ }
+    ensures { λ b. ⌜ b ≡ dangling (stageIn (tableOf (now (map .entry)))) (eventOf r) ⌝ }
 {
     let Record::Read {
         stamp,
@@ -132,39 +97,31 @@ fn dangling_read(
     else {
         return false;
     };
-    if transactions::stage_of(keys, next, head, vals, n, stamp) != transactions::COMMITTED {
+    if transactions::stage_of(map, stamp) != transactions::COMMITTED {
         return false;
     }
     if version.0 == 0 {
         return false;
     }
-    transactions::stage_of(keys, next, head, vals, n, version) != transactions::COMMITTED
+    transactions::stage_of(map, version) != transactions::COMMITTED
 }
 
-// The verdict on a log whose fields are right, where k commit: 26, then 27 with the first such read's place, else it passes.
-fn settle(
-    log: &[u8],
-    keys: &[u64],
-    next: &[usize],
-    head: &[usize],
-    vals: &[u64],
-    n: usize,
-    k: usize,
-) -> Verdict
-    requires { ⌜ (Table (now keys) (now next) (now head) (now vals) n) × ((4 ≤ length (now log)) × (k ≡ countCommits (eventsIn (fieldsFrom (now log) 4)))) ⌝ }
-    ensures { λ r. ⌜ r ≡ later (stageBy (now (keys .entry)) (now (vals .entry)) n) (fieldsFrom (now (log .entry)) 4) ⌝ }
+// A log whose fields are right, where k commit, judged further: 26, then 27 with the first such read's place, else it passes.
+fn settle(log: &[u8], map: &[u64], k: usize) -> Judged
+    requires { ⌜ (Table (now map)) × ((4 ≤ length (now log)) × (k ≡ countCommits (eventsIn (fieldsFrom (now log) 4)))) ⌝ }
+    ensures { λ r. ⌜ r ≡ later (stageIn (tableOf (now (map .entry)))) (fieldsFrom (now (log .entry)) 4) ⌝ }
 {
-    if Verdict::MOST_COMMITTED < k {
-        return Verdict::Refused(26, Place(0));
+    if numbers::MAX_COMMITTED < k {
+        return Judged::Refused(26, Place(0));
     }
     let mut at: usize = Place::FIRST;
     loop {
         let d = log_reader::decode_at(log, Place(at));
         let Decoded::Field(r, p) = d else {
-            return Verdict::Passed(k);
+            return Judged::Passed(k);
         };
-        if dangling_read(keys, next, head, vals, n, r) {
-            return Verdict::Refused(27, Place(at));
+        if dangling_read(map, r) {
+            return Judged::Refused(27, Place(at));
         }
         at = p.0;
     }
@@ -172,29 +129,19 @@ fn settle(
 
 // ---- the whole
 
-// The verdict on a log, with the map of its transactions in the lent slices where it passes.
-pub fn judge(
-    log: &[u8],
-    keys: &mut [u64],
-    next: &mut [usize],
-    head: &mut [usize],
-    vals: &mut [u64],
-) -> Judged
-    requires { ⌜ Lent (now keys) (now next) (now head) (now vals) ⌝ }
-    ensures { λ r. ⌜ Judgement (now (log .entry)) (now (keys .exit)) (now (next .exit)) (now (head .exit)) (now (vals .exit)) r ⌝ }
+// A log judged, with the map of its transactions in the lent words where it passes.
+pub fn judge(log: &[u8], map: &mut [u64]) -> Judged
+    requires { ⌜ Lent (now map) ⌝ }
+    ensures { λ r. ⌜ Judgement (now (log .entry)) (now (map .exit)) r ⌝ }
 {
     if log_reader::header_ok(log) {
-        let j = walk(log, keys, next, head, vals);
-        let v = j.verdict;
-        let rows = j.rows;
-        let Verdict::Passed(k) = v else {
+        let j = walk(log, map);
+        let Judged::Passed(k) = j else {
             return j;
         };
-        let verdict = settle(log, keys, next, head, vals, rows, k);
-        return Judged { verdict, rows };
+        return settle(log, map, k);
     }
-    let verdict = Verdict::Refused(21, Place(0));
-    Judged { verdict, rows: 0 }
+    Judged::Refused(21, Place(0))
 }
 
 // ---- the committed transactions

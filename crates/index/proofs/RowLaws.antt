@@ -1,178 +1,244 @@
--- A table that grows by a row, or in which a row's number changes, is a table again, and another map at that key alone: the new row is the newest of its
--- key and of its bucket, and every older row stands as it stood.
+-- A table that grows by a row is a table again, and another map at that key alone: the new row is the newest of its key and of its bucket, and every older
+-- row stands as it stood. The five words written are apart, so each part of the layout is read off the words by one law.
 -- Assumes nothing.
 use mathlib.Core.Path.{_≡_, refl, sym, ap, _∙_}
 use mathlib.Core.List.{List}
-use mathlib.Core.Logic.{_⊎_, inl, inr}
+use mathlib.Core.Logic.{_⊎_, inl, inr, _≢_}
 use mathlib.Core.Bool.{Bool, true, false, cond}
-use Prim.Native.Nat.{ℕ, zero, suc, _+_, _-_, _≤_, _<_}
+use Prim.Native.Nat.{ℕ, zero, suc, _+_, _≤_, _<_}
 use native.Mathlib.Numerals.{add-one}
 use native.Mathlib.Omega.{arith}
 use lib.ListN.{length, getD, set, length-set, replicate, length-replicate, getD-replicate}
 use lib.Seq.{getD-set-same, getD-set-other}
 use lib.Dec.{eqb}
 use borrow.Author.Tests.{eqb-true, eqb-false, eq-eqb, ne-eqb}
-use Rattle.index.specs.Index.{last, keyIs, rowOf, valueAt, lookup, buckets, bucketOf, inBucket, Chained, Table, Put}
-use Rattle.index.proofs.LastLaws.{last-le, last-hit, last-at, last-not, last-same}
+use Rattle.index.specs.Index.{buckets, bucketOf, rowsIn, newestIn, rowAt, keyAt, olderAt, numberAt}
+use Rattle.index.specs.Index.{last, keyIs, rowOf, valueAt, tableOf, inBucket, Table, Room, Pushed}
+use Rattle.index.proofs.LastLaws.{last-le, last-at, last-not, last-same}
 
--- ---- a new row
-
-module _ (keys : List ℕ) (n k : ℕ) (room : n < length keys) where
-  row-same : (i : ℕ) → i < n → getD (set keys n k) i 0 ≡ getD keys i 0
-  row-same i l = getD-set-other keys n i k 0 (λ e. omega arith)
-
-  row-new : getD (set keys n k) n 0 ≡ k
-  row-new = getD-set-same keys n k 0 room
-
-  bucket-same : (h m : ℕ) → m ≤ n → last (inBucket (set keys n k) h) m ≡ last (inBucket keys h) m
-  bucket-same h m l = last-same _ _ m (λ i j. rw (row-same i (omega arith)))
-
-  key-same : (h m : ℕ) → m ≤ n → rowOf (set keys n k) m h ≡ rowOf keys m h
-  key-same h m l = last-same _ _ m (λ i j. rw (row-same i (omega arith)))
-
-either : (i n : ℕ) → i < n + 1 → (i < n) ⊎ (i ≡ n)
-either i n h = go (eqb i n) refl
+-- a number below n + 1 is below n, or n
+split : (i n : ℕ) → i < n + 1 → (i < n) ⊎ (i ≡ n)
+split i n h = go (eqb i n) refl
   where
     go : (b : Bool) → eqb i n ≡ b → (i < n) ⊎ (i ≡ n)
     go true e = inr (eqb-true i n e)
     go false e = let f = eqb-false i n e in inl (omega arith)
 
-module _ (keys next head : List ℕ) (n k : ℕ) (c : Chained keys next head n) (room : n < length keys) (small : bucketOf k < buckets) where
-  next-room : n < length next
-  next-room = omega (arith, c .next-size)
+-- ---- the words after a push
 
-  links-more : (i : ℕ) → (i < n) ⊎ (i ≡ n) → getD (set next n (getD head (bucketOf k) 0)) i 0 ≡ last (inBucket (set keys n k) (bucketOf (getD (set keys n k) i 0))) i
-  links-more i (inl l) =
-      getD-set-other next n i _ 0 (λ e. omega arith)
-      ∙ c .links i l
-      ∙ rw (row-same keys n k room i l) (sym (bucket-same keys n k room (bucketOf (getD keys i 0)) i (omega arith)))
-  links-more i (inr e) =
-      rw e
-      (getD-set-same next n _ 0 next-room
-      ∙ c .heads (bucketOf k) small
-      ∙ rw (row-new keys n k room) (sym (bucket-same keys n k room (bucketOf k) n (omega arith))))
+-- the words after a push: a row's three, then the bucket's newest row and the number of rows
+abbrev keyed : List ℕ → ℕ → ℕ → List ℕ
+keyed m at k = set m at k
 
-  heads-more : (h : ℕ) → h < buckets → (b : Bool) → eqb h (bucketOf k) ≡ b → getD (set head (bucketOf k) (n + 1)) h 0 ≡ last (inBucket (set keys n k) h) (suc n)
-  heads-more h l true e =
-      let q : h ≡ bucketOf k = eqb-true _ _ e in
-      rw q
-      (getD-set-same head (bucketOf k) (n + 1) 0 (omega (arith, c .head-size))
-      ∙ add-one n
-      ∙ sym (last-at (inBucket (set keys n k) (bucketOf k)) n (eq-eqb _ _ (ap bucketOf (row-new keys n k room)))))
-  heads-more h l false e =
-      let q = eqb-false _ _ e in
-      getD-set-other head (bucketOf k) h (n + 1) 0 q
-      ∙ c .heads h l
-      ∙ sym (last-not (inBucket (set keys n k) h) n (ne-eqb _ _ (λ f. q (sym f ∙ ap bucketOf (row-new keys n k room)))) ∙ bucket-same keys n k room h n (omega arith))
+abbrev linked : (m : List ℕ) (at k older : ℕ) → List ℕ
+linked m at k older = set (keyed m at k) (at + 1) older
 
-  chained-more : Chained (set keys n k) (set next n (getD head (bucketOf k) 0)) (set head (bucketOf k) (n + 1)) (n + 1)
-  chained-more = record {
-    used = omega (arith, length-set keys n k);
-    next-size = length-set next n _ ∙ c .next-size ∙ sym (length-set keys n k);
-    head-size = length-set head _ _ ∙ c .head-size;
-    links = λ i l. links-more i (either i n l);
-    heads = λ h l. heads-more h l (eqb h (bucketOf k)) refl ∙ ap (last (inBucket (set keys n k) h)) (sym (add-one n));
-  }
+abbrev valued : (m : List ℕ) (at k older v : ℕ) → List ℕ
+valued m at k older v = set (linked m at k older) (at + 2) v
 
-  -- the map after it
-  look : (vals : List ℕ) (v : ℕ) → length vals ≡ length keys → (h : ℕ) (b : Bool) → eqb h k ≡ b
-      → valueAt (set vals n v) (rowOf (set keys n k) (suc n) h) ≡ cond b v (valueAt vals (rowOf keys n h))
-  look vals v s h true e =
-      rw (last-at (keyIs (set keys n k) h) n (eq-eqb _ _ (row-new keys n k room ∙ sym (eqb-true _ _ e)))) (getD-set-same vals n v 0 (omega arith))
-  look vals v s h false e =
-      rw (last-not (keyIs (set keys n k) h) n (ne-eqb _ _ (λ f. eqb-false _ _ e (sym f ∙ row-new keys n k room))), key-same keys n k room h n (omega arith))
-      (old (rowOf keys n h) (last-le _ n))
-    where
-      old : (m : ℕ) → m ≤ n → valueAt (set vals n v) m ≡ valueAt vals m
-      old zero l = refl
-      old (suc m) l = getD-set-other vals n m v 0 (λ e. omega arith)
+abbrev headed : (m : List ℕ) (at head k older v n : ℕ) → List ℕ
+headed m at head k older v n = set (valued m at k older v) head n
 
-  look-more : (vals : List ℕ) (v : ℕ) → length vals ≡ length keys → (h : ℕ) → lookup (set keys n k) (set vals n v) (n + 1) h ≡ cond (eqb h k) v (lookup keys vals n h)
-  unfolding lookup
-  look-more vals v s h = rw (add-one n) (look vals v s h (eqb h k) refl)
+abbrev pub pushedAt : (m : List ℕ) (at head k older v n : ℕ) → List ℕ
+pushedAt m at head k older v n = set (headed m at head k older v n) 0 n
 
--- what `push` leaves
-pub pushed : (keys next head vals : List ℕ) (n k v : ℕ) → Table keys next head vals n → n < length keys → bucketOf k < buckets
-    → Put keys vals n (set keys n k) (set next n (getD head (bucketOf k) 0)) (set head (bucketOf k) (n + 1)) (set vals n v) (n + 1) k v
-pushed keys next head vals n k v t room small = record {
-  table = record {
-    chained = chained-more keys next head n k (t .chained) room small;
-    vals-size = length-set vals n v ∙ t .vals-size ∙ sym (length-set keys n k);
-  };
-  room = length-set keys n k;
-  more = omega arith;
-  is = look-more keys next head n k (t .chained) room small vals v (t .vals-size);
-}
+module _ (m : List ℕ) (at head k older v n : ℕ) where
+  abbrev words : List ℕ
+  words = pushedAt m at head k older v n
 
--- ---- a number changed
+  pub pushed-length : length words ≡ length m
+  pushed-length = simp length-set
 
-module _ (keys vals : List ℕ) (n k v p : ℕ) (is : p ≡ rowOf keys n k) (pos : 0 < p) (room : p - 1 < length vals) where
-  there : getD keys (p - 1) 0 ≡ k
-  there = eqb-true _ _ (rw (← is) at (last-hit (keyIs keys k) n (rw (← is) pos)))
+  -- a word past the two counts
+  past-counts : (j : ℕ) → j ≢ 0 → j ≢ head → getD words j 0 ≡ getD (valued m at k older v) j 0
+  past-counts j a b = getD-set-other (headed m at head k older v n) 0 j n 0 a ∙ getD-set-other (valued m at k older v) head j n 0 b
 
-  changed : (h : ℕ) (b : Bool) → eqb h k ≡ b → valueAt (set vals (p - 1) v) (rowOf keys n h) ≡ cond b v (valueAt vals (rowOf keys n h))
-  changed h true e = rw (eqb-true h k e, ← is) (at p refl)
-    where
-      at : (m : ℕ) → m ≡ p → valueAt (set vals (p - 1) v) m ≡ v
-      at zero z = absurd (omega arith)
-      at (suc m) z = let q : m ≡ p - 1 = omega arith in rw q (getD-set-same vals (p - 1) v 0 room)
-  changed h false e = other (rowOf keys n h) refl
-    where
-      other : (m : ℕ) → rowOf keys n h ≡ m → valueAt (set vals (p - 1) v) m ≡ valueAt vals m
-      other zero z = refl
-      other (suc m) z =
-          let y : rowOf keys n h - 1 ≡ m = omega arith in
-          let t : getD keys m 0 ≡ h = eqb-true _ _ (rw y at (last-hit (keyIs keys h) n (omega arith))) in
-          getD-set-other vals (p - 1) m v 0 (λ q. eqb-false _ _ e (sym t ∙ ap (λ i. getD keys i 0) q ∙ there))
+  -- a word that is none of the five
+  elsewhere : (j : ℕ) → j ≢ 0 → j ≢ head → j ≢ at → j ≢ at + 1 → j ≢ at + 2 → getD words j 0 ≡ getD m j 0
+  elsewhere j a b c d e =
+      past-counts j a b
+      ∙ getD-set-other (linked m at k older) (at + 2) j v 0 e
+      ∙ getD-set-other (keyed m at k) (at + 1) j older 0 d
+      ∙ getD-set-other m at j k 0 c
 
-  look-changed : (h : ℕ) → lookup keys (set vals (p - 1) v) n h ≡ cond (eqb h k) v (lookup keys vals n h)
-  unfolding lookup
-  look-changed h = changed h (eqb h k) refl
+  -- each of the five
+  module _ (room : at + 2 < length m) (low : head < at) (pos : 0 < head) where
+    word-rows : getD words 0 0 ≡ n
+    word-rows = getD-set-same (headed m at head k older v n) 0 n 0 (simp length-set (omega arith))
 
--- what `put` leaves where the key has a row
-pub changed-at : (keys next head vals : List ℕ) (n k v p : ℕ) → Table keys next head vals n → p ≡ rowOf keys n k → 0 < p → p ≤ n
-    → Put keys vals n keys next head (set vals (p - 1) v) n k v
-changed-at keys next head vals n k v p t is pos l =
-    let u = t .chained .used in
-    let w = t .vals-size in
-    record {
-      table = record { chained = t .chained; vals-size = length-set vals (p - 1) v ∙ t .vals-size };
-      room = refl;
-      more = omega arith;
-      is = look-changed keys vals n k v p is pos (omega arith);
+    word-head : getD words head 0 ≡ n
+    word-head =
+        getD-set-other (headed m at head k older v n) 0 head n 0 (λ e. omega arith)
+        ∙ getD-set-same (valued m at k older v) head n 0 (simp length-set (omega arith))
+
+    word-key : getD words at 0 ≡ k
+    word-key =
+        past-counts at (λ e. omega arith) (λ e. omega arith)
+        ∙ getD-set-other (linked m at k older) (at + 2) at v 0 (λ e. omega arith)
+        ∙ getD-set-other (keyed m at k) (at + 1) at older 0 (λ e. omega arith)
+        ∙ getD-set-same m at k 0 (omega arith)
+
+    word-older : getD words (at + 1) 0 ≡ older
+    word-older =
+        past-counts (at + 1) (λ e. omega arith) (λ e. omega arith)
+        ∙ getD-set-other (linked m at k older) (at + 2) (at + 1) v 0 (λ e. omega arith)
+        ∙ getD-set-same (keyed m at k) (at + 1) older 0 (simp length-set (omega arith))
+
+    word-number : getD words (at + 2) 0 ≡ v
+    word-number =
+        past-counts (at + 2) (λ e. omega arith) (λ e. omega arith)
+        ∙ getD-set-same (linked m at k older) (at + 2) v 0 (simp length-set (omega arith))
+
+-- ---- each part of the layout, after a push of k and v
+
+abbrev pub after : List ℕ → ℕ → ℕ → List ℕ
+after m k v = pushedAt m (rowAt (rowsIn m)) (bucketOf k + 1) k (newestIn m (bucketOf k)) v (rowsIn m + 1)
+
+after-length : (m : List ℕ) (k v : ℕ) → length (after m k v) ≡ length m
+after-length m k v = pushed-length m (rowAt (rowsIn m)) (bucketOf k + 1) k (newestIn m (bucketOf k)) v (rowsIn m + 1)
+
+after-elsewhere : (m : List ℕ) (k v j : ℕ) → j ≢ 0 → j ≢ bucketOf k + 1 → j ≢ rowAt (rowsIn m) → j ≢ rowAt (rowsIn m) + 1 → j ≢ rowAt (rowsIn m) + 2
+    → getD (after m k v) j 0 ≡ getD m j 0
+after-elsewhere m k v j = elsewhere m (rowAt (rowsIn m)) (bucketOf k + 1) k (newestIn m (bucketOf k)) v (rowsIn m + 1) j
+
+module _ (m : List ℕ) (k v : ℕ) (room : rowAt (rowsIn m + 1) ≤ length m) (small : bucketOf k < buckets) where
+  abbrev at : ℕ
+  at = rowAt (rowsIn m)
+
+  abbrev head : ℕ
+  head = bucketOf k + 1
+
+  rows-after : rowsIn (after m k v) ≡ rowsIn m + 1
+  rows-after = word-rows m at head k (newestIn m (bucketOf k)) v (rowsIn m + 1) (omega arith) (omega arith) (omega arith)
+
+  newest-own : newestIn (after m k v) (bucketOf k) ≡ rowsIn m + 1
+  newest-own = word-head m at head k (newestIn m (bucketOf k)) v (rowsIn m + 1) (omega arith) (omega arith) (omega arith)
+
+  newest-other : (h : ℕ) → h < buckets → h ≢ bucketOf k → newestIn (after m k v) h ≡ newestIn m h
+  newest-other h l q =
+      after-elsewhere m k v (h + 1) (λ e. omega arith) (λ e. q (omega arith)) (λ e. omega arith) (λ e. omega arith) (λ e. omega arith)
+
+  -- the words of an older row
+  row-same : (i j : ℕ) → i < rowsIn m → j < 3 → getD (after m k v) (rowAt i + j) 0 ≡ getD m (rowAt i + j) 0
+  row-same i j l w =
+      after-elsewhere m k v (rowAt i + j) (λ e. omega arith) (λ e. omega arith) (λ e. omega arith) (λ e. omega arith) (λ e. omega arith)
+
+  key-same : (i : ℕ) → i < rowsIn m → keyAt (after m k v) i ≡ keyAt m i
+  key-same i l = after-elsewhere m k v (rowAt i) (λ e. omega arith) (λ e. omega arith) (λ e. omega arith) (λ e. omega arith) (λ e. omega arith)
+
+  -- those of the new one
+  key-new : keyAt (after m k v) (rowsIn m) ≡ k
+  key-new = word-key m at head k (newestIn m (bucketOf k)) v (rowsIn m + 1) (omega arith) (omega arith) (omega arith)
+
+  older-new : olderAt (after m k v) (rowsIn m) ≡ newestIn m (bucketOf k)
+  older-new = word-older m at head k (newestIn m (bucketOf k)) v (rowsIn m + 1) (omega arith) (omega arith) (omega arith)
+
+  number-new : numberAt (after m k v) (rowsIn m) ≡ v
+  number-new = word-number m at head k (newestIn m (bucketOf k)) v (rowsIn m + 1) (omega arith) (omega arith) (omega arith)
+
+  -- ---- the chains
+
+  bucket-same : (h n : ℕ) → n ≤ rowsIn m → last (inBucket (after m k v) h) n ≡ last (inBucket m h) n
+  bucket-same h n l = last-same _ _ n (λ i j. ap (λ (x : ℕ). eqb (bucketOf x) h) (key-same i (omega arith)))
+
+  found-same : (h n : ℕ) → n ≤ rowsIn m → rowOf (after m k v) n h ≡ rowOf m n h
+  found-same h n l = last-same _ _ n (λ i j. ap (λ (x : ℕ). eqb x h) (key-same i (omega arith)))
+
+  module _ (t : Table m) where
+    links-after : (i : ℕ) → (i < rowsIn m) ⊎ (i ≡ rowsIn m) → olderAt (after m k v) i ≡ last (inBucket (after m k v) (bucketOf (keyAt (after m k v) i))) i
+    links-after i (inl l) =
+        row-same i 1 l (omega arith)
+        ∙ t .links i l
+        ∙ sym (bucket-same (bucketOf (keyAt m i)) i (omega arith))
+        ∙ ap (λ (x : ℕ). last (inBucket (after m k v) (bucketOf x)) i) (sym (key-same i l))
+    links-after i (inr e) =
+        ap (olderAt (after m k v)) e
+        ∙ older-new
+        ∙ t .heads (bucketOf k) small
+        ∙ sym (bucket-same (bucketOf k) (rowsIn m) (omega arith))
+        ∙ ap (λ (x : ℕ). last (inBucket (after m k v) (bucketOf x)) (rowsIn m)) (sym key-new)
+        ∙ ap (λ (j : ℕ). last (inBucket (after m k v) (bucketOf (keyAt (after m k v) j))) j) (sym e)
+
+    heads-after : (h : ℕ) → h < buckets → (b : Bool) → eqb h (bucketOf k) ≡ b → newestIn (after m k v) h ≡ last (inBucket (after m k v) h) (suc (rowsIn m))
+    heads-after h l true e =
+        let q : h ≡ bucketOf k = eqb-true _ _ e in
+        ap (newestIn (after m k v)) q
+        ∙ newest-own
+        ∙ add-one (rowsIn m)
+        ∙ sym (last-at (inBucket (after m k v) h) (rowsIn m) (eq-eqb _ _ (ap bucketOf key-new ∙ sym q)))
+    heads-after h l false e =
+        let q = eqb-false _ _ e in
+        newest-other h l q
+        ∙ t .heads h l
+        ∙ sym (bucket-same h (rowsIn m) (omega arith))
+        ∙ sym (last-not (inBucket (after m k v) h) (rowsIn m) (ne-eqb _ _ (λ f. q (sym f ∙ ap bucketOf key-new))))
+
+    table-after : Table (after m k v)
+    table-after = record {
+      used = omega (arith, rows-after, after-length m k v);
+      links = λ i l. links-after i (split i (rowsIn m) (omega (arith, rows-after)));
+      heads = λ h l. heads-after h l (eqb h (bucketOf k)) refl ∙ ap (last (inBucket (after m k v) h)) (sym (rows-after ∙ add-one (rowsIn m)));
     }
 
--- ---- what `get` answers
+  -- ---- the map
 
-module _ (keys vals : List ℕ) (n k p : ℕ) (is : p ≡ rowOf keys n k) where
-  pub look-at : 0 < p → getD vals (p - 1) 0 ≡ lookup keys vals n k
-  unfolding lookup
-  look-at h = rw (← is) (at p h)
+  look : (h : ℕ) (b : Bool) → eqb h k ≡ b → valueAt (after m k v) (rowOf (after m k v) (suc (rowsIn m)) h) ≡ cond b v (valueAt m (rowOf m (rowsIn m) h))
+  look h true e =
+      ap (valueAt (after m k v)) (last-at (keyIs (after m k v) h) (rowsIn m) (eq-eqb _ _ (key-new ∙ sym (eqb-true _ _ e)))) ∙ number-new
+  look h false e =
+      ap (valueAt (after m k v))
+      (last-not (keyIs (after m k v) h) (rowsIn m) (ne-eqb _ _ (λ f. eqb-false _ _ e (sym f ∙ key-new))) ∙ found-same h (rowsIn m) (omega arith))
+      ∙ old (rowOf m (rowsIn m) h) (last-le _ (rowsIn m))
     where
-      at : (p : ℕ) → 0 < p → getD vals (p - 1) 0 ≡ valueAt vals p
-      at zero h = absurd (omega arith)
-      at (suc p) h = let z : suc p - 1 ≡ p = omega arith in rw z
+      old : (p : ℕ) → p ≤ rowsIn m → valueAt (after m k v) p ≡ valueAt m p
+      old zero l = refl
+      old (suc p) l = row-same p 2 (omega arith) (omega arith)
 
-  pub look-none : p ≤ 0 → 0 ≡ lookup keys vals n k
-  unfolding lookup
-  look-none h = let z : p ≡ 0 = omega arith in rw (← is, z)
+  look-after : (h : ℕ) → tableOf (after m k v) h ≡ cond (eqb h k) v (tableOf m h)
+  unfolding tableOf
+  look-after h = ap (λ (n : ℕ). valueAt (after m k v) (rowOf (after m k v) n h)) (rows-after ∙ add-one (rowsIn m)) ∙ look h (eqb h k) refl
+
+-- what `push` leaves
+pub pushed : (m : List ℕ) (k v : ℕ) → Table m → Room 1 m → bucketOf k < buckets → Pushed m k v (after m k v)
+unfolding Room
+pushed m k v t room small =
+    let l = after-length m k v in
+    let r = rows-after m k v room small in
+    record {
+      table = table-after m k v room small t;
+      size = l;
+      room = λ n h. omega (arith, l, r);
+      is = look-after m k v room small;
+    }
+
+-- ---- room
+
+-- where there is room for more rows, there is for fewer
+pub room-fewer : (m : List ℕ) (n l : ℕ) → n ≤ l → Room l m → Room n m
+unfolding Room
+room-fewer m n l h r = omega arith
 
 -- ---- no rows
 
--- slices of zeros are a table without rows, in which every key has 0
-pub empty-table : (room : ℕ) → Table (replicate room 0) (replicate room 0) (replicate buckets 0) (replicate room 0) 0
+-- a slice of zeros is a table without rows, with room for as many as its length says
+pub empty-table : (n : ℕ) → rowAt 0 ≤ n → Table (replicate n 0)
 unfolding last
-empty-table room = record {
-  chained = record {
-    used = omega arith;
-    next-size = refl;
-    head-size = length-replicate {A = ℕ} buckets 0;
-    links = λ i l. absurd (omega arith);
-    heads = λ h l. getD-replicate {A = ℕ} buckets h 0 0 l;
-  };
-  vals-size = refl;
-}
+empty-table n h =
+    let z : rowsIn (replicate n 0) ≡ 0 = getD-replicate {A = ℕ} n 0 0 0 (omega arith) in
+    record {
+      used = omega (arith, z, length-replicate {A = ℕ} n 0);
+      links = λ i l. absurd (omega arith);
+      heads = λ b l. getD-replicate {A = ℕ} n (b + 1) 0 0 (omega arith) ∙ ap (last (inBucket (replicate n 0) b)) (sym z);
+    }
 
-pub look-empty : (keys vals : List ℕ) (k : ℕ) → lookup keys vals 0 k ≡ 0
-unfolding lookup last
-look-empty keys vals k = refl
+pub empty-room : (n l : ℕ) → rowAt n ≤ l → Room n (replicate l 0)
+unfolding Room
+empty-room n l h =
+    let z : rowsIn (replicate l 0) ≡ 0 = getD-replicate {A = ℕ} l 0 0 0 (omega arith) in
+    omega (arith, z, length-replicate {A = ℕ} l 0)
+
+pub look-empty : (n k : ℕ) → rowAt 0 ≤ n → tableOf (replicate n 0) k ≡ 0
+unfolding tableOf last
+look-empty n k h =
+    let z : rowsIn (replicate n 0) ≡ 0 = getD-replicate {A = ℕ} n 0 0 0 (omega arith) in
+    ap (λ (r : ℕ). valueAt (replicate n 0) (rowOf (replicate n 0) r k)) z

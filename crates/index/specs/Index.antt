@@ -1,12 +1,49 @@
--- A map from key to number: what it is as a function, and the chains that let a program ask it quickly. The first n rows count, in the order of their
--- arrival.
+-- A map from key to number in the words of one slice: what it is as a function, where its parts stand, and the chains that let a program ask it quickly.
 -- Assumes nothing.
 use mathlib.Core.Path.{_≡_}
 use mathlib.Core.List.{List}
 use mathlib.Core.Bool.{Bool, cond}
-use Prim.Native.Nat.{ℕ, zero, suc, _+_, _≤_, _<_, _%_}
+use Prim.Native.Nat.{ℕ, zero, suc, _+_, _*_, _≤_, _<_, _%_}
 use lib.ListN.{length, getD}
 use lib.Dec.{eqb}
+
+-- ---- the layout
+
+-- how many buckets there are, and which is a key's
+abbrev pub buckets : ℕ
+buckets = 8191
+
+abbrev pub bucketOf : ℕ → ℕ
+bucketOf k = k % buckets
+
+-- how many rows there are: word 0
+abbrev pub rowsIn : List ℕ → ℕ
+rowsIn m = getD m 0 0
+
+-- the newest row of the bucket h, told by one more than its place, or 0: the words after it
+abbrev pub newestIn : List ℕ → ℕ → ℕ
+newestIn m h = getD m (h + 1) 0
+
+-- where row i stands
+abbrev pub rowAt : ℕ → ℕ
+rowAt i = buckets + 1 + 3 * i
+
+-- how many rows the map of a log is to have room for, as each field of a log has at least 7 of its 65,536 bytes; and how many words it then has
+abbrev pub maxRows : ℕ
+maxRows = 9362
+
+abbrev pub words : ℕ
+words = rowAt maxRows
+
+-- a row's key, the row before it in its bucket, and its number
+abbrev pub keyAt : List ℕ → ℕ → ℕ
+keyAt m i = getD m (rowAt i) 0
+
+abbrev pub olderAt : List ℕ → ℕ → ℕ
+olderAt m i = getD m (rowAt i + 1) 0
+
+abbrev pub numberAt : List ℕ → ℕ → ℕ
+numberAt m i = getD m (rowAt i + 2) 0
 
 -- ---- the map as a function
 
@@ -17,50 +54,40 @@ last p (suc n) = cond (p n) (suc n) (last p n)
 
 -- row i has the key k
 abbrev pub keyIs : List ℕ → ℕ → ℕ → Bool
-keyIs keys k i = eqb (getD keys i 0) k
+keyIs m k i = eqb (keyAt m i) k
 
--- one more than the newest row of the key k, or 0
+-- one more than the newest of the first n rows that has the key k, or 0
 abbrev pub rowOf : List ℕ → ℕ → ℕ → ℕ
-rowOf keys n k = last (keyIs keys k) n
+rowOf m n k = last (keyIs m k) n
 
 -- the number in row p - 1; 0 for no row
 abbrev pub valueAt : List ℕ → ℕ → ℕ
-valueAt vals zero = 0
-valueAt vals (suc i) = getD vals i 0
+valueAt m zero = 0
+valueAt m (suc i) = numberAt m i
 
--- the number of the key k, 0 where it has none
-unfoldable pub lookup : List ℕ → List ℕ → ℕ → ℕ → ℕ
-lookup keys vals n k = valueAt vals (rowOf keys n k)
+-- the number of each key, 0 where it has none
+unfoldable pub tableOf : List ℕ → ℕ → ℕ
+tableOf m k = valueAt m (rowOf m (rowsIn m) k)
 
 -- ---- the chains
 
--- how many buckets there are, and which is a key's
-abbrev pub buckets : ℕ
-buckets = 8191
-
-abbrev pub bucketOf : ℕ → ℕ
-bucketOf k = k % 8191
-
 -- the key of row i is in the bucket h
 abbrev pub inBucket : List ℕ → ℕ → ℕ → Bool
-inBucket keys h i = eqb (bucketOf (getD keys i 0)) h
+inBucket m h i = eqb (bucketOf (keyAt m i)) h
 
 -- each row knows the row before it in its bucket, and each bucket its newest row
-pub record Chained (keys next head : List ℕ) (n : ℕ) : Type 0 where
-  pub used : n ≤ length keys
-  pub next-size : length next ≡ length keys
-  pub head-size : length head ≡ buckets
-  pub links : (i : ℕ) → i < n → getD next i 0 ≡ last (inBucket keys (bucketOf (getD keys i 0))) i
-  pub heads : (h : ℕ) → h < buckets → getD head h 0 ≡ last (inBucket keys h) n
+pub record Table (m : List ℕ) : Type 0 where
+  pub used : rowAt (rowsIn m) ≤ length m
+  pub links : (i : ℕ) → i < rowsIn m → olderAt m i ≡ last (inBucket m (bucketOf (keyAt m i))) i
+  pub heads : (h : ℕ) → h < buckets → newestIn m h ≡ last (inBucket m h) (rowsIn m)
 
--- with a number for each row
-pub record Table (keys next head vals : List ℕ) (n : ℕ) : Type 0 where
-  pub chained : Chained keys next head n
-  pub vals-size : length vals ≡ length keys
+-- there is room for n rows more
+unfoldable pub Room : ℕ → List ℕ → Type 0
+Room n m = rowAt (rowsIn m + n) ≤ length m
 
--- after v was put at k: a table again with the same room, at most one row longer, which is another map at k alone
-pub record Put (keys vals : List ℕ) (n : ℕ) (keys′ next′ head′ vals′ : List ℕ) (n′ k v : ℕ) : Type 0 where
-  pub table : Table keys′ next′ head′ vals′ n′
-  pub room : length keys′ ≡ length keys
-  pub more : n′ ≤ n + 1
-  pub is : (h : ℕ) → lookup keys′ vals′ n′ h ≡ cond (eqb h k) v (lookup keys vals n h)
+-- after v was pushed at k: a table again, of the same length and with room for a row less, which is another map at k alone
+pub record Pushed (m : List ℕ) (k v : ℕ) (m′ : List ℕ) : Type 0 where
+  pub table : Table m′
+  pub size : length m′ ≡ length m
+  pub room : (n : ℕ) → Room (n + 1) m → Room n m′
+  pub is : (h : ℕ) → tableOf m′ h ≡ cond (eqb h k) v (tableOf m h)

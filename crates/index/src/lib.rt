@@ -1,12 +1,22 @@
-// A map from key to number in slices that the caller lends: rows in the order of their arrival, and for each bucket a chain through its rows, the
-// newest first. The newest row of a key has the key's number, and a key without a row has 0.
+// A map from key to number in one slice of words that the caller lends. Rows stand in the order of their arrival, and for each bucket a chain leads
+// through its rows, the newest first. The newest row of a key has the key's number, and a key without a row has 0. Only this crate knows the layout:
+// word 0 has how many rows there are, a word for each bucket follows, then three words a row (its key, the row before it in its bucket, its number).
+// A row is told by one more than its place, so that 0 is none. A slice of zeros is a map without rows.
 ghost use mathlib.Core.Path.{_≡_};
-ghost use Prim.Native.Nat.{_<_, _≤_};
-ghost use lib.ListN.{length};
-ghost use Rattle.index.specs.Index.{buckets, bucketOf, rowOf, lookup, Chained, Table, Put};
+ghost use Prim.Native.Nat.{_<_};
+ghost use Rattle.index.specs.Index.{buckets, bucketOf, tableOf, Table, Room, Pushed};
 
-// How many buckets there are: a prime, so that keys which rise or fall by equal steps, whatever the step, do not share one.
-pub const BUCKETS: u64 = 8191;
+// How many buckets there are. A prime, so that keys which rise or fall by equal steps spread over all of them, unless the step is a multiple of it.
+const BUCKETS: u64 = 8191;
+
+// Where the first row stands.
+const ROWS: usize = BUCKETS as usize + 1;
+
+// How many rows the map of a log is to have room for: each field of a log has at least 7 of its 65,536 bytes.
+const MAX_ROWS: usize = 9362;
+
+// How many words such a map has.
+pub const WORDS: usize = ROWS + 3 * MAX_ROWS;
 
 // The bucket of a key.
 fn bucket(k: u64) -> usize
@@ -15,68 +25,34 @@ fn bucket(k: u64) -> usize
     (k % BUCKETS) as usize
 }
 
-// One more than the newest row of the key, or 0. Nothing changes.
-pub fn find(keys: &[u64], next: &[usize], head: &[usize], n: usize, k: u64) -> usize
-    requires { ⌜ Chained (now keys) (now next) (now head) n ⌝ }
-    ensures { λ r. ⌜ (r ≡ rowOf (now (keys .entry)) n k) × (r ≤ n) ⌝ }
-{
-    let mut p = head[bucket(k)];
-    while 0 < p {
-        if keys[p - 1] == k {
-            return p;
-        }
-        p = next[p - 1];
-    }
-    p
-}
-
 // The number of the key, or 0. Nothing changes.
-pub fn get(keys: &[u64], next: &[usize], head: &[usize], vals: &[u64], n: usize, k: u64) -> u64
-    requires { ⌜ Table (now keys) (now next) (now head) (now vals) n ⌝ }
-    ensures { λ r. ⌜ r ≡ lookup (now (keys .entry)) (now (vals .entry)) n k ⌝ }
+pub fn get(map: &[u64], k: u64) -> u64
+    requires { ⌜ Table (now map) ⌝ }
+    ensures { λ r. ⌜ r ≡ tableOf (now (map .entry)) k ⌝ }
 {
-    let p = find(keys, next, head, n, k);
-    if 0 < p { vals[p - 1] } else { 0 }
-}
-
-// A new row with the number v for the key k, whether or not the key has one; the number of rows then. It walks no chain.
-pub fn push(
-    keys: &mut [u64],
-    next: &mut [usize],
-    head: &mut [usize],
-    vals: &mut [u64],
-    n: usize,
-    k: u64,
-    v: u64,
-) -> usize
-    requires { ⌜ (Table (now keys) (now next) (now head) (now vals) n) × (n < length (now keys)) ⌝ }
-    ensures { λ r. ⌜ Put (now (keys .entry)) (now (vals .entry)) n (now (keys .exit)) (now (next .exit)) (now (head .exit)) (now (vals .exit)) r k v ⌝ }
-{
-    let b = bucket(k);
-    keys[n] = k;
-    next[n] = head[b];
-    head[b] = n + 1;
-    vals[n] = v;
-    n + 1
-}
-
-// The number v for the key k, in the key's row where it has one, else in a new row; the number of rows then.
-pub fn put(
-    keys: &mut [u64],
-    next: &mut [usize],
-    head: &mut [usize],
-    vals: &mut [u64],
-    n: usize,
-    k: u64,
-    v: u64,
-) -> usize
-    requires { ⌜ (Table (now keys) (now next) (now head) (now vals) n) × (n < length (now keys)) ⌝ }
-    ensures { λ r. ⌜ Put (now (keys .entry)) (now (vals .entry)) n (now (keys .exit)) (now (next .exit)) (now (head .exit)) (now (vals .exit)) r k v ⌝ }
-{
-    let p = find(keys, next, head, n, k);
-    if 0 < p {
-        vals[p - 1] = v;
-        return n;
+    let mut p = map[bucket(k) + 1] as usize;
+    while 0 < p {
+        let at = ROWS + 3 * (p - 1);
+        if map[at] == k {
+            return map[at + 2];
+        }
+        p = map[at + 1] as usize;
     }
-    push(keys, next, head, vals, n, k, v)
+    0
+}
+
+// A new row with the number v for the key k, whether or not the key has one. It walks no chain.
+pub fn push(map: &mut [u64], k: u64, v: u64)
+    requires { ⌜ (Table (now map)) × Room 1 (now map) ⌝ }
+    ensures { λ _. ⌜ Pushed (now (map .entry)) k v (now (map .exit)) ⌝ }
+{
+    let n = map[0];
+    let head = bucket(k) + 1;
+    let older = map[head];
+    let at = ROWS + 3 * (n as usize);
+    map[at] = k;
+    map[at + 1] = older;
+    map[at + 2] = v;
+    map[head] = n + 1;
+    map[0] = n + 1;
 }

@@ -1,17 +1,33 @@
 -- A row pushed at an event's key, with the event's number, notes the event; a read is noted by no row.
 -- Assumes nothing.
-use Prim.Native.Nat.{ℕ}
+use Prim.Native.Nat.{ℕ, _+_}
 use native.Mathlib.Omega.{arith}
-use mathlib.Core.Path.{_≡_, refl, _∙_}
+use mathlib.Core.Path.{_≡_, refl, sym, ap, _∙_}
 use mathlib.Core.List.{List}
-use Rattle.log_format.specs.Events.{Event, reads}
+use Rattle.log_format.specs.Events.{eventOf}
+use Rattle.log_format.specs.declared.Stamp.{Stamp}
+use Rattle.log_format.specs.declared.Record.{Record}
+use Rattle.log_format.specs.declared.Record.the-variants.{Read}
 use Rattle.history_rules.specs.Held.{putAt, noted}
-use Rattle.index.specs.Index.{lookup, Table, Put}
+use Rattle.index.specs.Index.{tableOf, Table, Pushed}
+use Rattle.index.proofs.RowLaws.{room-fewer}
 use Rattle.transactions.specs.Transactions.{Noted}
 
-pub note-put : (keys vals : List ℕ) (n : ℕ) (keys′ next′ head′ vals′ : List ℕ) (n′ k v : ℕ) (e : Event) → Put keys vals n keys′ next′ head′ vals′ n′ k v
-    → ((table : ℕ → ℕ) (h : ℕ) → putAt k v table h ≡ noted e table h) → Noted keys vals n e keys′ next′ head′ vals′ n′
-note-put keys vals n keys′ next′ head′ vals′ n′ k v e p s = record { table = p .table; room = p .room; more = p .more; is = λ h. p .is h ∙ s (lookup keys vals n) h }
+-- of a record r that is q, whose key is l: the push at l notes the event
+pub note-push : {m m′ : List ℕ} {k l v : ℕ} {r q : Record} → r ≡ q → k ≡ l → ((table : ℕ → ℕ) (h : ℕ) → putAt l v table h ≡ noted (eventOf q) table h) → Pushed m k v m′
+    → Noted m (eventOf r) m′
+note-push {m} {m′} {k} {l} {v} {r} {q} e f s p = record {
+  table = p .table;
+  size = p .size;
+  room = p .room;
+  is = λ h. p .is h ∙ ap (λ (i : ℕ). putAt i v (tableOf m) h) f ∙ s (tableOf m) h ∙ ap (λ (x : Record). noted (eventOf x) (tableOf m) h) (sym e);
+}
 
-pub note-read : (keys next head vals : List ℕ) (n t x j v : ℕ) → Table keys next head vals n → Noted keys vals n (reads t x j v) keys next head vals n
-note-read keys next head vals n t x j v q = record { table = q; room = refl; more = omega arith; is = λ h. refl }
+-- a read is noted by the map as it is
+pub note-read : {m : List ℕ} {r : Record} {t j : Stamp} {x v : ℕ} → r ≡ Read t x j v → Table m → Noted m (eventOf r) m
+note-read {m} e q = record {
+  table = q;
+  size = refl;
+  room = λ n. room-fewer m n (n + 1) (omega arith);
+  is = λ h. ap (λ (x : Record). noted (eventOf x) (tableOf m) h) (sym e);
+}

@@ -1,24 +1,21 @@
--- The transactions' table as a program keeps it, in the rows of a map.
+-- What a map says of the transactions of a log, and what noting a record leaves.
 -- Assumes nothing.
-use Prim.Native.Nat.{ℕ, _+_, _≤_}
+use Prim.Native.Nat.{ℕ, _+_}
 use mathlib.Core.Path.{_≡_}
 use mathlib.Core.List.{List}
 use lib.ListN.{length}
 use Rattle.log_format.specs.Events.{Event}
+use Rattle.history_rules.specs.Faults.{faultBy}
 use Rattle.history_rules.specs.Held.{stageIn, writtenIn, noted}
-use Rattle.index.specs.Index.{lookup, Table}
+use Rattle.index.specs.Index.{tableOf, Table, Room}
 
--- how far each transaction has come, as the first n rows say
-abbrev pub stageBy : List ℕ → List ℕ → ℕ → ℕ → ℕ
-stageBy keys vals n = stageIn (lookup keys vals n)
+-- the code of an event after those that a table has, 23 to 25, or 0
+abbrev pub faultIn : (ℕ → ℕ) → Event → ℕ
+faultIn table = faultBy (stageIn table) (writtenIn table)
 
--- and one more than what it wrote to an item, or 0
-abbrev pub writtenBy : List ℕ → List ℕ → ℕ → ℕ → ℕ → ℕ
-writtenBy keys vals n = writtenIn (lookup keys vals n)
-
--- after the event e was noted: a map again with the same room, at most one row longer, in which e is noted
-pub record Noted (keys vals : List ℕ) (n : ℕ) (e : Event) (keys′ next′ head′ vals′ : List ℕ) (n′ : ℕ) : Type 0 where
-  pub table : Table keys′ next′ head′ vals′ n′
-  pub room : length keys′ ≡ length keys
-  pub more : n′ ≤ n + 1
-  pub is : (h : ℕ) → lookup keys′ vals′ n′ h ≡ noted e (lookup keys vals n) h
+-- after the event e was noted: a map again, of the same length and with room for at most one row less, in which e is noted
+pub record Noted (m : List ℕ) (e : Event) (m′ : List ℕ) : Type 0 where
+  pub table : Table m′
+  pub size : length m′ ≡ length m
+  pub room : (n : ℕ) → Room (n + 1) m → Room n m′
+  pub is : (h : ℕ) → tableOf m′ h ≡ noted e (tableOf m) h

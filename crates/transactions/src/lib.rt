@@ -2,13 +2,11 @@
 // 25, and a record noted. Each asks the map at most four times and adds at most one row, so a log costs as many lookups as it has fields: near-linear in
 // its bytes, unless its stamps are chosen so that their keys share one bucket, where a lookup walks all rows.
 ghost use mathlib.Core.Path.{_≡_};
-ghost use lib.ListN.{length};
-ghost use Prim.Native.Nat.{_<_};
 ghost use Rattle.log_format.specs.Events.{begins, reads, writes, commits, eventOf};
-ghost use Rattle.history_rules.specs.Faults.{idle, unfit, unread, faultBy};
-ghost use Rattle.history_rules.specs.Held.{stageKey, itemKey};
-ghost use Rattle.index.specs.Index.{Table};
-ghost use Rattle.transactions.specs.Transactions.{stageBy, writtenBy, Noted};
+ghost use Rattle.history_rules.specs.Faults.{idle, unfit, unread};
+ghost use Rattle.history_rules.specs.Held.{stageKey, itemKey, stageIn, writtenIn};
+ghost use Rattle.index.specs.Index.{tableOf, Table, Room};
+ghost use Rattle.transactions.specs.Transactions.{faultIn, Noted};
 use log_format::Record;
 use log_format::Stamp;
 
@@ -19,8 +17,8 @@ pub const COMMITTED: u64 = 2;
 
 pub const ABORTED: u64 = 3;
 
-// The largest item.
-const MOST_ITEM: u8 = 63;
+// The largest item, as a record has it.
+const MAX_ITEM: u8 = numbers::MAX_ITEM as u8;
 
 // ---- what the map says
 
@@ -39,251 +37,158 @@ fn item_key(t: Stamp, x: u8) -> u64
 }
 
 // How far a transaction has come. Nothing changes.
-pub fn stage_of(
-    keys: &[u64],
-    next: &[usize],
-    head: &[usize],
-    vals: &[u64],
-    n: usize,
-    t: Stamp,
-) -> u64
-    requires { ⌜ Table (now keys) (now next) (now head) (now vals) n ⌝ }
-    ensures { λ r. ⌜ r ≡ stageBy (now (keys .entry)) (now (vals .entry)) n (t .0) ⌝ }
+pub fn stage_of(map: &[u64], t: Stamp) -> u64
+    requires { ⌜ Table (now map) ⌝ }
+    ensures { λ r. ⌜ r ≡ stageIn (tableOf (now (map .entry))) (t .0) ⌝ }
 {
-    index::get(keys, next, head, vals, n, stage_key(t))
+    index::get(map, stage_key(t))
 }
 
 // One more than the value that a transaction wrote to an item, or 0. Nothing changes.
-pub fn written_of(
-    keys: &[u64],
-    next: &[usize],
-    head: &[usize],
-    vals: &[u64],
-    n: usize,
-    t: Stamp,
-    x: u8,
-) -> u64
-    requires { ⌜ Table (now keys) (now next) (now head) (now vals) n ⌝ }
-    ensures { λ r. ⌜ r ≡ writtenBy (now (keys .entry)) (now (vals .entry)) n (t .0) x ⌝ }
+pub fn written_of(map: &[u64], t: Stamp, x: u8) -> u64
+    requires { ⌜ Table (now map) ⌝ }
+    ensures { λ r. ⌜ r ≡ writtenIn (tableOf (now (map .entry))) (t .0) x ⌝ }
 {
-    index::get(keys, next, head, vals, n, item_key(t, x))
+    index::get(map, item_key(t, x))
 }
 
 // ---- codes 23 to 25
 
 // Whether a stamp is 0, not begun or already ended: 23.
-fn idle_stamp(
-    keys: &[u64],
-    next: &[usize],
-    head: &[usize],
-    vals: &[u64],
-    n: usize,
-    t: Stamp,
-) -> bool
-    requires { ⌜ Table (now keys) (now next) (now head) (now vals) n ⌝ }
-    ensures { λ r. ⌜ r ≡ idle (stageBy (now (keys .entry)) (now (vals .entry)) n) (t .0) ⌝ }
+fn idle_stamp(map: &[u64], t: Stamp) -> bool
+    requires { ⌜ Table (now map) ⌝ }
+    ensures { λ r. ⌜ r ≡ idle (stageIn (tableOf (now (map .entry)))) (t .0) ⌝ }
 {
     if t.0 == 0 {
         return true;
     }
-    stage_of(keys, next, head, vals, n, t) != RUNNING
+    stage_of(map, t) != RUNNING
 }
 
 // Whether version j of an item may not be read with the value v: not written with it, or aborted; of version 0, the value is not 0.
-fn unfit_version(
-    keys: &[u64],
-    next: &[usize],
-    head: &[usize],
-    vals: &[u64],
-    n: usize,
-    x: u8,
-    j: Stamp,
-    v: u32,
-) -> bool
-    requires { ⌜ Table (now keys) (now next) (now head) (now vals) n ⌝ }
-    ensures { λ r. ⌜ r ≡ unfit (stageBy (now (keys .entry)) (now (vals .entry)) n) (writtenBy (now (keys .entry)) (now (vals .entry)) n) x (j .0) v ⌝ }
+fn unfit_version(map: &[u64], x: u8, j: Stamp, v: u32) -> bool
+    requires { ⌜ Table (now map) ⌝ }
+    ensures { λ r. ⌜ r ≡ unfit (stageIn (tableOf (now (map .entry)))) (writtenIn (tableOf (now (map .entry)))) x (j .0) v ⌝ }
 {
     if j.0 == 0 {
         return v != 0;
     }
-    if written_of(keys, next, head, vals, n, j, x) != v as u64 + 1 {
+    if written_of(map, j, x) != v as u64 + 1 {
         return true;
     }
-    stage_of(keys, next, head, vals, n, j) == ABORTED
+    stage_of(map, j) == ABORTED
 }
 
 // Whether t may not read an item in version j with the value v: the version is unfit, or t has an earlier write of its own. 25.
-fn unread_version(
-    keys: &[u64],
-    next: &[usize],
-    head: &[usize],
-    vals: &[u64],
-    n: usize,
-    t: Stamp,
-    x: u8,
-    j: Stamp,
-    v: u32,
-) -> bool
-    requires { ⌜ Table (now keys) (now next) (now head) (now vals) n ⌝ }
-    ensures { λ r. ⌜ r ≡ unread (stageBy (now (keys .entry)) (now (vals .entry)) n) (writtenBy (now (keys .entry)) (now (vals .entry)) n) (t .0) x (j .0) v ⌝ }
+fn unread_version(map: &[u64], t: Stamp, x: u8, j: Stamp, v: u32) -> bool
+    requires { ⌜ Table (now map) ⌝ }
+    ensures { λ r. ⌜ r ≡ unread (stageIn (tableOf (now (map .entry)))) (writtenIn (tableOf (now (map .entry)))) (t .0) x (j .0) v ⌝ }
 {
     if j.0 != t.0 {
-        if written_of(keys, next, head, vals, n, t, x) != 0 {
+        if written_of(map, t, x) != 0 {
             return true;
         }
     }
-    unfit_version(keys, next, head, vals, n, x, j, v)
+    unfit_version(map, x, j, v)
 }
 
 // The code of a begin, or 0: a stamp that is 0 or has begun already.
-fn begin_fault(
-    keys: &[u64],
-    next: &[usize],
-    head: &[usize],
-    vals: &[u64],
-    n: usize,
-    t: Stamp,
-) -> u32
-    requires { ⌜ Table (now keys) (now next) (now head) (now vals) n ⌝ }
-    ensures { λ r. ⌜ r ≡ faultBy (stageBy (now (keys .entry)) (now (vals .entry)) n) (writtenBy (now (keys .entry)) (now (vals .entry)) n) (begins (t .0)) ⌝ }
+fn begin_fault(map: &[u64], t: Stamp) -> u32
+    requires { ⌜ Table (now map) ⌝ }
+    ensures { λ r. ⌜ r ≡ faultIn (tableOf (now (map .entry))) (begins (t .0)) ⌝ }
 {
     if t.0 == 0 {
         return 23;
     }
-    if stage_of(keys, next, head, vals, n, t) != 0 {
+    if stage_of(map, t) != 0 {
         return 23;
     }
     0
 }
 
 // The code of a read, or 0.
-fn read_fault(
-    keys: &[u64],
-    next: &[usize],
-    head: &[usize],
-    vals: &[u64],
-    n: usize,
-    t: Stamp,
-    x: u8,
-    j: Stamp,
-    v: u32,
-) -> u32
-    requires { ⌜ Table (now keys) (now next) (now head) (now vals) n ⌝ }
-    ensures { λ r. ⌜ r ≡ faultBy (stageBy (now (keys .entry)) (now (vals .entry)) n) (writtenBy (now (keys .entry)) (now (vals .entry)) n) (reads (t .0) x (j .0) v) ⌝ }
+fn read_fault(map: &[u64], t: Stamp, x: u8, j: Stamp, v: u32) -> u32
+    requires { ⌜ Table (now map) ⌝ }
+    ensures { λ r. ⌜ r ≡ faultIn (tableOf (now (map .entry))) (reads (t .0) x (j .0) v) ⌝ }
 {
-    if idle_stamp(keys, next, head, vals, n, t) {
+    if idle_stamp(map, t) {
         return 23;
     }
-    if MOST_ITEM < x {
+    if MAX_ITEM < x {
         return 24;
     }
-    if unread_version(keys, next, head, vals, n, t, x, j, v) {
+    if unread_version(map, t, x, j, v) {
         return 25;
     }
     0
 }
 
 // The code of a write, or 0: whatever the value.
-fn write_fault(
-    keys: &[u64],
-    next: &[usize],
-    head: &[usize],
-    vals: &[u64],
-    n: usize,
-    t: Stamp,
-    x: u8,
-    v: u32,
-) -> u32
-    requires { ⌜ Table (now keys) (now next) (now head) (now vals) n ⌝ }
-    ensures { λ r. ⌜ r ≡ faultBy (stageBy (now (keys .entry)) (now (vals .entry)) n) (writtenBy (now (keys .entry)) (now (vals .entry)) n) (writes (t .0) x v) ⌝ }
+fn write_fault(map: &[u64], t: Stamp, x: u8, v: u32) -> u32
+    requires { ⌜ Table (now map) ⌝ }
+    ensures { λ r. ⌜ r ≡ faultIn (tableOf (now (map .entry))) (writes (t .0) x v) ⌝ }
 {
-    if idle_stamp(keys, next, head, vals, n, t) {
+    if idle_stamp(map, t) {
         return 23;
     }
-    if MOST_ITEM < x {
+    if MAX_ITEM < x {
         return 24;
     }
-    if written_of(keys, next, head, vals, n, t, x) != 0 {
+    if written_of(map, t, x) != 0 {
         return 24;
     }
     0
 }
 
 // The code of a commit or an abort, or 0.
-fn end_fault(keys: &[u64], next: &[usize], head: &[usize], vals: &[u64], n: usize, t: Stamp) -> u32
-    requires { ⌜ Table (now keys) (now next) (now head) (now vals) n ⌝ }
-    ensures { λ r. ⌜ r ≡ faultBy (stageBy (now (keys .entry)) (now (vals .entry)) n) (writtenBy (now (keys .entry)) (now (vals .entry)) n) (commits (t .0)) ⌝ }
+fn end_fault(map: &[u64], t: Stamp) -> u32
+    requires { ⌜ Table (now map) ⌝ }
+    ensures { λ r. ⌜ r ≡ faultIn (tableOf (now (map .entry))) (commits (t .0)) ⌝ }
 {
-    if idle_stamp(keys, next, head, vals, n, t) {
+    if idle_stamp(map, t) {
         return 23;
     }
     0
 }
 
 // The code of a record after those noted, lowest first, or 0 for a right one. Nothing changes.
-pub fn fault(keys: &[u64], next: &[usize], head: &[usize], vals: &[u64], n: usize, r: Record) -> u32
-    requires { ⌜ Table (now keys) (now next) (now head) (now vals) n ⌝ }
-    ensures { λ c. ⌜ c ≡ faultBy (stageBy (now (keys .entry)) (now (vals .entry)) n) (writtenBy (now (keys .entry)) (now (vals .entry)) n) (eventOf r) ⌝ }
+pub fn fault(map: &[u64], r: Record) -> u32
+    requires { ⌜ Table (now map) ⌝ }
+    ensures { λ c. ⌜ c ≡ faultIn (tableOf (now (map .entry))) (eventOf r) ⌝ }
 {
     match r {
-        Record::Begin(t) => begin_fault(keys, next, head, vals, n, t),
+        Record::Begin(t) => begin_fault(map, t),
         Record::Read {
             stamp,
             item,
             version,
             value,
-        } => read_fault(keys, next, head, vals, n, stamp, item, version, value),
-        Record::Write { stamp, item, value } => write_fault(
-            keys,
-            next,
-            head,
-            vals,
-            n,
-            stamp,
-            item,
-            value,
-        ),
-        Record::Commit(t) => end_fault(keys, next, head, vals, n, t),
-        Record::Abort { stamp, cause: _ } => end_fault(keys, next, head, vals, n, stamp),
+        } => read_fault(map, stamp, item, version, value),
+        Record::Write { stamp, item, value } => write_fault(map, stamp, item, value),
+        Record::Commit(t) => end_fault(map, t),
+        Record::Abort { stamp, cause: _ } => end_fault(map, stamp),
     }
 }
 
 // ---- a record noted
 
-// The map with a record noted; the number of its rows then. A read leaves it as it is.
-pub fn note(
-    keys: &mut [u64],
-    next: &mut [usize],
-    head: &mut [usize],
-    vals: &mut [u64],
-    n: usize,
-    r: Record,
-) -> usize
-    requires { ⌜ (Table (now keys) (now next) (now head) (now vals) n) × (n < length (now keys)) ⌝ }
-    ensures { λ m. ⌜ Noted (now (keys .entry)) (now (vals .entry)) n (eventOf r) (now (keys .exit)) (now (next .exit)) (now (head .exit)) (now (vals .exit)) m ⌝ }
+// The map with a record noted. A read leaves it as it is.
+pub fn note(map: &mut [u64], r: Record)
+    requires { ⌜ (Table (now map)) × Room 1 (now map) ⌝ }
+    ensures { λ _. ⌜ Noted (now (map .entry)) (eventOf r) (now (map .exit)) ⌝ }
 {
     match r {
-        Record::Begin(t) => index::push(keys, next, head, vals, n, stage_key(t), RUNNING),
+        Record::Begin(t) => index::push(map, stage_key(t), RUNNING),
         Record::Read {
             stamp: _,
             item: _,
             version: _,
             value: _,
-        } => n,
+        } => {}
         Record::Write { stamp, item, value } => {
-            index::push(
-                keys,
-                next,
-                head,
-                vals,
-                n,
-                item_key(stamp, item),
-                value as u64 + 1,
-            )
+            index::push(map, item_key(stamp, item), value as u64 + 1)
         }
-        Record::Commit(t) => index::push(keys, next, head, vals, n, stage_key(t), COMMITTED),
-        Record::Abort { stamp, cause: _ } => {
-            index::push(keys, next, head, vals, n, stage_key(stamp), ABORTED)
-        }
+        Record::Commit(t) => index::push(map, stage_key(t), COMMITTED),
+        Record::Abort { stamp, cause: _ } => index::push(map, stage_key(stamp), ABORTED),
     }
 }

@@ -10,22 +10,25 @@ enum-known-r : tie.Need-enum-known-r
 enum-known-r c = search needs
 
 returns : tie.Need-returns
-returns c = no-read _ (c .before .before .before .before .before .args .r) (c .match .keys2)
+returns c = no-read _ (c .before .before .args .r) (c .match .keys2)
 
 stage-of-requires : tie.Need-stage-of-requires
 stage-of-requires c κs = search needs
 
 returns-2 : tie.Need-returns-2
-returns-2 c = rw (c .before .before .before .r .given .1) (let w = c .before .stage-of .ensures in rw (← w, ne-eqb _ _ (c .if1 .taken)))
+returns-2 c =
+    rw (c .before .before .before .r .given .1) (let w = c .before .stage-of .ensures in rw (← w, ne-eqb _ _ (c .if1 .taken)))
 
 returns-3 : tie.Need-returns-3
-returns-3 c = rw (c .before .before .before .before .before .r .given .1) (let w = c .before .before .before .stage-of .ensures in rw (← w, eq-eqb _ _ (c .before .before .if1 .left), eq-eqb _ _ (c .if2 .taken)))
+returns-3 c =
+    rw (c .before .before .before .before .before .r .given .1) (let w = c .before .before .before .stage-of .ensures in rw (← w, eq-eqb _ _ (c .before .before .if1 .left), eq-eqb _ _ (c .if2 .taken)))
 
 stage-of-requires-2 : tie.Need-stage-of-requires-2
 stage-of-requires-2 c κs = search needs
 
 returns-4 : tie.Need-returns-4
-returns-4 c = rw (c .before .before .before .before .before .before .r .given .1) (let w = c .before .before .before .before .stage-of .ensures in rw (← w, eq-eqb _ _ (c .before .before .before .if1 .left), ne-eqb _ _ (c .before .if2 .left), c .stage-of2 .ensures))
+returns-4 c =
+    rw (c .before .before .before .before .before .before .r .given .1) (let w = c .before .before .before .before .stage-of .ensures in rw (← w, eq-eqb _ _ (c .before .before .before .if1 .left), ne-eqb _ _ (c .before .if2 .left), c .stage-of2 .ensures))
 
 pub dangling-read-spec : {M : Type 1} → statement M
 dangling-read-spec =

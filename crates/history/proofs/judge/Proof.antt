@@ -10,17 +10,21 @@ use borrow.Author.Needs.{needs}
 use Rattle.history.proofs.judge.Statement.{statement}
 use Rattle.history.proofs.judge.Tie as tie
 
+-- the header is right
+headed : (c : tie.Then1) → headerOk (c .before .before .before .before .args .log .now) ≡ true
+headed c = sym (c .before .header-ok .ensures) ∙ c .if1 .taken
+
 header-ok-requires : tie.Need-header-ok-requires
 header-ok-requires c κs = search needs
 
 walk-requires : tie.Need-walk-requires
 walk-requires c κs =
-    let s = c .before .before .before .before .before .before .before .before .before .before .before .args .log .now in
-    let h : headerOk s ≡ true = sym (c .before .before .before .before .before .header-ok .ensures) ∙ c .before .before .before .before .if1 .taken in
-    (c .before .before .before .before .before .before .before .before .before .before .before .pre, (header-long s h, header-short s h))
+    let start = c .before .before .before .before .before in
+    let h = headed (c .before) in
+    (start .pre, (header-long (start .args .log .now) h, header-short (start .args .log .now) h))
 
-enum-known-v : tie.Need-enum-known-v
-enum-known-v c = search needs
+enum-known-j : tie.Need-enum-known-j
+enum-known-j c = search needs
 
 enum-told : tie.Need-enum-told
 enum-told c = search needs
@@ -28,52 +32,25 @@ enum-told c = search needs
 same-length : tie.Need-same-length
 same-length c = search needs
 
-same-length-2 : tie.Need-same-length-2
-same-length-2 c = search needs
-
-same-length-3 : tie.Need-same-length-3
-same-length-3 c = search needs
-
-same-length-4 : tie.Need-same-length-4
-same-length-4 c = search needs
-
 returns : tie.Need-returns
 returns c =
-    let s = c .before .before .before .before .before .before .before .before .before .before .before .before .before .before .before .before .before .before .before .before .before .before .args .log .now in
-    let h : headerOk s ≡ true = sym (c .before .before .before .before .before .before .before .before .before .before .before .before .before .before .before .before .header-ok .ensures) ∙ c .before .before .before .before .before .before .before .before .before .before .before .before .before .before .before .if1 .taken in
-    let w = c .before .before .before .before .before .before .before .before .before .before .walk in
-    judge-stopped s _ _ _ _ h (w .result) (w .ensures) (no-pass (w .result .verdict) (c .before .match .keys2))
+    judge-stopped (headed (c .before .before .before .before .before .before)) _ (c .before .before .before .before .walk .ensures) (no-pass (c .before .before .before .before .walk .result) (c .before .match .keys2))
 
 settle-requires : tie.Need-settle-requires
 settle-requires c κs =
-    let s = c .before .before .before .before .before .before .before .before .before .before .before .before .before .before .before .before .before .before .before .before .before .before .before .before .before .before .before .args .log .now in
-    let h : headerOk s ≡ true = sym (c .before .before .before .before .before .before .before .before .before .before .before .before .before .before .before .before .before .before .before .before .before .header-ok .ensures) ∙ c .before .before .before .before .before .before .before .before .before .before .before .before .before .before .before .before .before .before .before .before .if1 .taken in
-    let w = c .before .before .before .before .before .before .before .before .before .before .before .before .before .before .before .walk in
-    (w .ensures .table, (header-long s h, judge-count s _ _ _ _ h (w .result) (w .ensures) _ (c .before .before .before .before .before .v .given .1)))
+    let h = headed (c .before .before .before .before .before .before .before .before) in
+    let w = c .before .before .before .before .before .before .walk .ensures in
+    (w .table, (header-long (c .before .before .before .before .before .before .before .before .before .before .before .before .args .log .now) h, judge-count h w (c .before .before .j .given .1)))
 
-same-length-5 : tie.Need-same-length-5
-same-length-5 c = search needs
-
-same-length-6 : tie.Need-same-length-6
-same-length-6 c = search needs
-
-same-length-7 : tie.Need-same-length-7
-same-length-7 c = search needs
-
-same-length-8 : tie.Need-same-length-8
-same-length-8 c = search needs
+same-length-2 : tie.Need-same-length-2
+same-length-2 c = search needs
 
 returns-2 : tie.Need-returns-2
 returns-2 c =
-    let s = c .before .before .before .before .before .before .before .before .before .before .before .before .before .before .before .before .before .before .before .before .before .before .before .before .before .before .before .before .args .log .now in
-    let h : headerOk s ≡ true = sym (c .before .before .before .before .before .before .before .before .before .before .before .before .before .before .before .before .before .before .before .before .before .before .header-ok .ensures) ∙ c .before .before .before .before .before .before .before .before .before .before .before .before .before .before .before .before .before .before .before .before .before .if1 .taken in
-    let w = c .before .before .before .before .before .before .before .before .before .before .before .before .before .before .before .before .walk in
-    judge-settled s _ _ _ _ h (w .result) (w .ensures) _ (c .before .before .before .before .before .before .v .given .1) _ (c .settle .ensures)
+    judge-settled (headed (c .before .before .before .before .before .before .before .before .before)) (c .before .before .before .before .before .before .before .walk .ensures) (c .before .before .before .j .given .1) (c .settle .ensures)
 
 returns-3 : tie.Need-returns-3
-returns-3 c =
-    let a = c .before .before .before .before .before .before .before .args in
-    judge-unheaded (a .log .now) (a .keys .now) (a .next .now) (a .head .now) (a .vals .now) (sym (c .before .header-ok .ensures) ∙ c .if1 .left) (c .before .before .before .before .before .before .before .pre)
+returns-3 c = judge-unheaded (sym (c .before .header-ok .ensures) ∙ c .if1 .left) (c .before .before .before .before .pre)
 
 pub judge-spec : {M : Type 1} → statement M
 judge-spec =
@@ -81,17 +58,11 @@ judge-spec =
     (tie.spec
     header-ok-requires
     walk-requires
-    enum-known-v
+    enum-known-j
     enum-told
     same-length
-    same-length-2
-    same-length-3
-    same-length-4
     returns
     settle-requires
-    same-length-5
-    same-length-6
-    same-length-7
-    same-length-8
+    same-length-2
     returns-2
     returns-3)

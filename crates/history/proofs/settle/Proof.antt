@@ -11,26 +11,33 @@ use Rattle.log_format.specs.Fields.{decodeAt, found}
 use Rattle.log_format.proofs.Reading.{progress}
 use Rattle.log_format.proofs.NoFields.{no-field}
 use Rattle.history_rules.specs.History.{fieldsFrom}
-use Rattle.transactions.specs.Transactions.{stageBy}
+use Rattle.history_rules.specs.Held.{stageIn}
+use Rattle.index.specs.Index.{tableOf}
 use Rattle.history.proofs.SettleLaws.{settle-many, Settling, settle-start, settle-stop, settle-bad, settle-next}
 use Rattle.history.proofs.settle.Statement.{statement}
 use Rattle.history.proofs.settle.Tie as tie
 
 abbrev Inv-loop : tie.InvT-loop
-Inv-loop log keys next head vals n k at₀ at = Settling log (stageBy keys vals n) at
+Inv-loop log map k at₀ at = Settling log (stageIn (tableOf map)) at
 
 abbrev μ-loop : tie.MeasureT-loop
-μ-loop log keys next head vals n k at₀ at = length log - at
+μ-loop log map k at₀ at = length log - at
+
+-- the log's bytes are bytes
+bytes : (c : tie.At-loop Inv-loop μ-loop) → Bytes (c .before .before .before .before .args .log .now)
+bytes c i = c .before .before .before .shared-slice-known .given i .fits
+
+-- the record that stands at the place
+decoded : (c : tie.After-d Inv-loop μ-loop) → decodeAt (c .before .before .before .before .before .before .before .args .log .now) (c .before .before .before .loop .at) ≡ found (c .d .given .0 .0) (c .d .given .0 .1 .0 .0)
+decoded c = sym (c .before .before .decode-at .ensures) ∙ c .d .given .1
 
 returns : tie.Need-returns Inv-loop μ-loop
 returns c =
-    let a = c .before .before .before .before .before .before .args in
-    settle-many (stageBy (a .keys .now) (a .vals .now) (a .n)) (fieldsFrom (a .log .now) 4) (a .k) (c .before .before .before .before .before .before .pre .1 .1) (c .if1 .taken)
+    let a = c .before .before .before .args in
+    settle-many (stageIn (tableOf (a .map .now))) (fieldsFrom (a .log .now) 4) (c .before .before .before .pre .1 .1) (c .if1 .taken)
 
 loop-holds : tie.Need-loop-holds Inv-loop μ-loop
-loop-holds c =
-    let a = c .before .before .before .before .before .before .args in
-    settle-start (a .log .now) (stageBy (a .keys .now) (a .vals .now) (a .n)) (c .before .before .before .before .before .before .pre .1 .0)
+loop-holds c = settle-start (c .before .before .before .pre .1 .0)
 
 decode-at-requires : tie.Need-decode-at-requires Inv-loop μ-loop
 decode-at-requires c κs = search needs
@@ -40,42 +47,23 @@ enum-known-d c = search needs
 
 returns-2 : tie.Need-returns-2 Inv-loop μ-loop
 returns-2 c =
-    let a = c .before .before .before .before .before .before .before .before .before .args in
     let d = c .before .decode-at in
-    settle-stop (a .log .now) (stageBy (a .keys .now) (a .vals .now) (a .n)) (c .before .before .loop .at) (c .before .before .loop .inv) (a .k) (c .before .before .before .before .before .before .before .before .before .pre .1 .1) (c .before .before .before .if1 .left) _ (sym (d .ensures)) (no-field (d .result) (c .match .keys2))
+    settle-stop (c .before .before .loop .inv) (c .before .before .before .before .before .before .pre .1 .1) (c .before .before .before .if1 .left) _ (sym (d .ensures)) (no-field (d .result) (c .match .keys2))
 
 dangling-read-requires : tie.Need-dangling-read-requires Inv-loop μ-loop
 dangling-read-requires c κs = search needs
 
 returns-3 : tie.Need-returns-3 Inv-loop μ-loop
 returns-3 c =
-    let a = c .before .before .before .before .before .before .before .before .before .before .before .before .before .args in
-    let l = c .before .before .before .before .before .before .loop in
-    let s = a .log .now in
-    let b : Bytes s = λ i. c .before .before .before .before .before .before .before .before .before .before .before .before .shared-slice-known .given i .fits in
-    let v = c .before .before .before .d .given .0 in
-    let e : decodeAt s (l .at) ≡ found (v .0) (v .1 .0 .0) = sym (c .before .before .before .before .before .decode-at .ensures) ∙ c .before .before .before .d .given .1 in
-    settle-bad s (stageBy (a .keys .now) (a .vals .now) (a .n)) (l .at) (l .inv) (a .k) (c .before .before .before .before .before .before .before .before .before .before .before .before .before .pre .1 .1) (c .before .before .before .before .before .before .before .if1 .left) b (v .0) (v .1 .0 .0) e (sym (c .before .dangling-read .ensures) ∙ c .if2 .taken)
+    settle-bad (c .before .before .before .before .before .before .loop .inv) (c .before .before .before .before .before .before .before .before .before .before .pre .1 .1) (c .before .before .before .before .before .before .before .if1 .left) (bytes (c .before .before .before .before .before .before)) (decoded (c .before .before .before)) (sym (c .before .dangling-read .ensures) ∙ c .if2 .taken)
 
 loop-less : tie.Need-loop-less Inv-loop μ-loop
 loop-less c =
-    let a = c .before .before .before .before .before .before .before .before .before .before .before .before .before .args in
-    let l = c .before .before .before .before .before .before .loop in
-    let s = a .log .now in
-    let b : Bytes s = λ i. c .before .before .before .before .before .before .before .before .before .before .before .before .shared-slice-known .given i .fits in
-    let v = c .before .before .before .d .given .0 in
-    let e : decodeAt s (l .at) ≡ found (v .0) (v .1 .0 .0) = sym (c .before .before .before .before .before .decode-at .ensures) ∙ c .before .before .before .d .given .1 in
-    omega (arith, progress s b (l .at) (v .0) (v .1 .0 .0) e, l .inv .within)
+    omega (arith, progress _ (bytes (c .before .before .before .before .before .before)) _ _ _ (decoded (c .before .before .before)), c .before .before .before .before .before .before .loop .inv .within)
 
 loop-again : tie.Need-loop-again Inv-loop μ-loop
 loop-again c =
-    let a = c .before .before .before .before .before .before .before .before .before .before .before .before .before .args in
-    let l = c .before .before .before .before .before .before .loop in
-    let s = a .log .now in
-    let b : Bytes s = λ i. c .before .before .before .before .before .before .before .before .before .before .before .before .shared-slice-known .given i .fits in
-    let v = c .before .before .before .d .given .0 in
-    let e : decodeAt s (l .at) ≡ found (v .0) (v .1 .0 .0) = sym (c .before .before .before .before .before .decode-at .ensures) ∙ c .before .before .before .d .given .1 in
-    settle-next s (stageBy (a .keys .now) (a .vals .now) (a .n)) (l .at) (l .inv) b (v .0) (v .1 .0 .0) e (sym (c .before .dangling-read .ensures) ∙ c .if2 .left)
+    settle-next (c .before .before .before .before .before .before .loop .inv) (bytes (c .before .before .before .before .before .before)) (decoded (c .before .before .before)) (sym (c .before .dangling-read .ensures) ∙ c .if2 .left)
 
 pub settle-spec : {M : Type 1} → statement M
 settle-spec =

@@ -1,6 +1,7 @@
 -- Each kind of record but a read pushes one row at its key.
 -- Assumes nothing.
-use Rattle.transactions.proofs.NoteLaws.{note-put, note-read}
+use mathlib.Core.Path.{refl}
+use Rattle.transactions.proofs.NoteLaws.{note-push, note-read}
 use borrow.Author.Needs.{needs}
 use Rattle.transactions.proofs.note.Statement.{statement}
 use Rattle.transactions.proofs.note.Tie as tie
@@ -53,65 +54,29 @@ push-requires-4 c κs = search needs
 same-length : tie.Need-same-length
 same-length c = search needs
 
+returns : tie.Need-returns
+returns c = note-push (c .before .before .before .before .before .before .r .given .1) (c .before .before .before .stage-key .ensures) (λ table h. refl) (c .before .before .push .ensures)
+
+returns-2 : tie.Need-returns-2
+returns-2 c = note-read (c .enum-told .given .1) (c .before .before .before .pre .0)
+
 same-length-2 : tie.Need-same-length-2
 same-length-2 c = search needs
+
+returns-3 : tie.Need-returns-3
+returns-3 c = note-push (c .before .before .before .before .before .before .r2 .given .1) (c .before .before .before .item-key .ensures) (λ table h. refl) (c .before .before .push2 .ensures)
 
 same-length-3 : tie.Need-same-length-3
 same-length-3 c = search needs
 
+returns-4 : tie.Need-returns-4
+returns-4 c = note-push (c .before .before .before .before .before .before .r3 .given .1) (c .before .before .before .stage-key2 .ensures) (λ table h. refl) (c .before .before .push3 .ensures)
+
 same-length-4 : tie.Need-same-length-4
 same-length-4 c = search needs
 
-returns : tie.Need-returns
-returns c = rw (c .before .before .before .before .before .before .before .before .before .before .before .before .before .before .before .r .given .1) (note-put (c .before .before .before .before .before .before .before .before .before .before .before .before .before .before .before .before .before .before .before .before .before .args .keys .now) (c .before .before .before .before .before .before .before .before .before .before .before .before .before .before .before .before .before .before .before .before .before .args .vals .now) (c .before .before .before .before .before .before .before .before .before .before .before .before .before .before .before .before .before .before .before .before .before .args .n) _ _ _ _ _ _ _ _ (c .before .before .before .before .before .before .before .before .push .ensures) (λ table h. rw (c .before .before .before .before .before .before .before .before .before .stage-key .ensures)))
-
-returns-2 : tie.Need-returns-2
-returns-2 c = rw (c .enum-told .given .1) (note-read (c .before .before .before .before .before .before .args .keys .now) (c .before .before .before .before .before .before .args .next .now) (c .before .before .before .before .before .before .args .head .now) (c .before .before .before .before .before .before .args .vals .now) (c .before .before .before .before .before .before .args .n) _ _ _ _ (c .before .before .before .before .before .before .pre .0))
-
-same-length-5 : tie.Need-same-length-5
-same-length-5 c = search needs
-
-same-length-6 : tie.Need-same-length-6
-same-length-6 c = search needs
-
-same-length-7 : tie.Need-same-length-7
-same-length-7 c = search needs
-
-same-length-8 : tie.Need-same-length-8
-same-length-8 c = search needs
-
-returns-3 : tie.Need-returns-3
-returns-3 c = rw (c .before .before .before .before .before .before .before .before .before .before .before .before .before .before .before .r2 .given .1) (note-put (c .before .before .before .before .before .before .before .before .before .before .before .before .before .before .before .before .before .before .before .before .before .args .keys .now) (c .before .before .before .before .before .before .before .before .before .before .before .before .before .before .before .before .before .before .before .before .before .args .vals .now) (c .before .before .before .before .before .before .before .before .before .before .before .before .before .before .before .before .before .before .before .before .before .args .n) _ _ _ _ _ _ _ _ (c .before .before .before .before .before .before .before .before .push2 .ensures) (λ table h. rw (c .before .before .before .before .before .before .before .before .before .item-key .ensures)))
-
-same-length-9 : tie.Need-same-length-9
-same-length-9 c = search needs
-
-same-length-10 : tie.Need-same-length-10
-same-length-10 c = search needs
-
-same-length-11 : tie.Need-same-length-11
-same-length-11 c = search needs
-
-same-length-12 : tie.Need-same-length-12
-same-length-12 c = search needs
-
-returns-4 : tie.Need-returns-4
-returns-4 c = rw (c .before .before .before .before .before .before .before .before .before .before .before .before .before .before .before .r3 .given .1) (note-put (c .before .before .before .before .before .before .before .before .before .before .before .before .before .before .before .before .before .before .before .before .before .args .keys .now) (c .before .before .before .before .before .before .before .before .before .before .before .before .before .before .before .before .before .before .before .before .before .args .vals .now) (c .before .before .before .before .before .before .before .before .before .before .before .before .before .before .before .before .before .before .before .before .before .args .n) _ _ _ _ _ _ _ _ (c .before .before .before .before .before .before .before .before .push3 .ensures) (λ table h. rw (c .before .before .before .before .before .before .before .before .before .stage-key2 .ensures)))
-
-same-length-13 : tie.Need-same-length-13
-same-length-13 c = search needs
-
-same-length-14 : tie.Need-same-length-14
-same-length-14 c = search needs
-
-same-length-15 : tie.Need-same-length-15
-same-length-15 c = search needs
-
-same-length-16 : tie.Need-same-length-16
-same-length-16 c = search needs
-
 returns-5 : tie.Need-returns-5
-returns-5 c = rw (c .before .before .before .before .before .before .before .before .before .before .before .before .before .before .before .r4 .given .1) (note-put (c .before .before .before .before .before .before .before .before .before .before .before .before .before .before .before .before .before .before .before .before .before .args .keys .now) (c .before .before .before .before .before .before .before .before .before .before .before .before .before .before .before .before .before .before .before .before .before .args .vals .now) (c .before .before .before .before .before .before .before .before .before .before .before .before .before .before .before .before .before .before .before .before .before .args .n) _ _ _ _ _ _ _ _ (c .before .before .before .before .before .before .before .before .push4 .ensures) (λ table h. rw (c .before .before .before .before .before .before .before .before .before .stage-key3 .ensures)))
+returns-5 c = note-push (c .before .before .before .before .before .before .r4 .given .1) (c .before .before .before .stage-key3 .ensures) (λ table h. refl) (c .before .before .push4 .ensures)
 
 pub note-spec : {M : Type 1} → statement M
 note-spec =
@@ -133,23 +98,11 @@ note-spec =
     stage-key-requires-3
     push-requires-4
     same-length
-    same-length-2
-    same-length-3
-    same-length-4
     returns
     returns-2
-    same-length-5
-    same-length-6
-    same-length-7
-    same-length-8
+    same-length-2
     returns-3
-    same-length-9
-    same-length-10
-    same-length-11
-    same-length-12
+    same-length-3
     returns-4
-    same-length-13
-    same-length-14
-    same-length-15
-    same-length-16
+    same-length-4
     returns-5)
