@@ -5,10 +5,11 @@ ghost use Prim.Native.Nat.{_+_, _*_, _≤_, _<_};
 ghost use lib.ListN.{length, take};
 ghost use Rattle.log_format.specs.Bytes.{stampBytes, splice};
 ghost use Rattle.history_rules.specs.WellFormed.{mostItem, mostCommitted};
-ghost use Rattle.index.specs.Index.{Table};
+ghost use Rattle.history_rules.specs.Held.{writtenIn};
+ghost use Rattle.index.specs.Index.{tableOf, Table};
 ghost use Rattle.order_rules.specs.Fields.{bytes2, bodyOf};
 ghost use Rattle.order_rules.specs.Timestamps.{versionsBy, orderBy, Wrote};
-ghost use Rattle.version_order.specs.Judging.{wroteIn, Ready};
+ghost use Rattle.version_order.specs.Judging.{Ready};
 ghost use Rattle.order_writer.specs.Writing.{sizeOf, stampIf, fieldBytes, Placed};
 use log_writer::put4;
 use order_rules::Written;
@@ -16,29 +17,20 @@ use version_order::wrote;
 
 // The tag of a version order's fields.
 const TAG: u8 = 32;
-// How many items there are.
-const ITEMS: u8 = 64;
+// How many items there are, as a field has them.
+const ITEMS: u8 = numbers::ITEMS as u8;
 
 // ---- how many bytes
 
 // How many of the first `count` nodes wrote the item.
-fn count_versions(
-    keys: &[u64],
-    next: &[usize],
-    head: &[usize],
-    vals: &[u64],
-    n: usize,
-    nodes: &[u32],
-    count: usize,
-    item: u8,
-) -> usize
-    requires { ⌜ Ready (now keys) (now next) (now head) (now vals) n (now nodes) count ⌝ }
-    ensures { λ r. ⌜ (r ≡ length (versionsBy (wroteIn (now (keys .entry)) (now (vals .entry)) n) (take count (now (nodes .entry))) item)) × (r ≤ count) ⌝ }
+fn count_versions(map: &[u64], nodes: &[u32], count: usize, item: u8) -> usize
+    requires { ⌜ Ready (now map) (now nodes) count ⌝ }
+    ensures { λ r. ⌜ (r ≡ length (versionsBy (writtenIn (tableOf (now (map .entry)))) (take count (now (nodes .entry))) item)) × (r ≤ count) ⌝ }
 {
     let mut versions: usize = 0;
     let mut i: usize = 0;
     while i < count {
-        versions += wrote(keys, next, head, vals, n, nodes[i], item) as usize;
+        versions += wrote(map, nodes[i], item) as usize;
         i += 1;
     }
     versions
@@ -56,22 +48,14 @@ fn field_size(versions: usize) -> usize
 }
 
 // The bytes of the whole order.
-fn needed(
-    keys: &[u64],
-    next: &[usize],
-    head: &[usize],
-    vals: &[u64],
-    n: usize,
-    nodes: &[u32],
-    count: usize,
-) -> usize
-    requires { ⌜ (Ready (now keys) (now next) (now head) (now vals) n (now nodes) count) × (count ≤ mostCommitted) ⌝ }
-    ensures { λ r. ⌜ r ≡ length (orderBy (wroteIn (now (keys .entry)) (now (vals .entry)) n) (take count (now (nodes .entry)))) ⌝ }
+fn needed(map: &[u64], nodes: &[u32], count: usize) -> usize
+    requires { ⌜ (Ready (now map) (now nodes) count) × (count ≤ mostCommitted) ⌝ }
+    ensures { λ r. ⌜ r ≡ length (orderBy (writtenIn (tableOf (now (map .entry)))) (take count (now (nodes .entry)))) ⌝ }
 {
     let mut size: usize = 0;
     let mut item: u8 = 0;
     while item < ITEMS {
-        size += field_size(count_versions(keys, next, head, vals, n, nodes, count, item));
+        size += field_size(count_versions(map, nodes, count, item));
         item += 1;
     }
     size
@@ -92,21 +76,11 @@ fn put_front(out: &mut [u8], at: usize, item: u8, versions: usize)
 }
 
 // The stamp's four bytes, if it wrote the item; the place after them.
-fn put_if(
-    keys: &[u64],
-    next: &[usize],
-    head: &[usize],
-    vals: &[u64],
-    n: usize,
-    stamp: u32,
-    item: u8,
-    out: &mut [u8],
-    at: usize,
-) -> usize
-    requires { ⌜ (Table (now keys) (now next) (now head) (now vals) n) × (at + length (stampIf (wroteIn (now keys) (now vals) n) item stamp) ≤ length (now out)) ⌝ }
-    ensures { λ r. ⌜ Placed (now (out .entry)) at (stampIf (wroteIn (now (keys .entry)) (now (vals .entry)) n) item stamp) r (now (out .exit)) ⌝ }
+fn put_if(map: &[u64], stamp: u32, item: u8, out: &mut [u8], at: usize) -> usize
+    requires { ⌜ (Table (now map)) × (at + length (stampIf (writtenIn (tableOf (now map))) item stamp) ≤ length (now out)) ⌝ }
+    ensures { λ r. ⌜ Placed (now (out .entry)) at (stampIf (writtenIn (tableOf (now (map .entry)))) item stamp) r (now (out .exit)) ⌝ }
 {
-    if wrote(keys, next, head, vals, n, stamp, item) {
+    if wrote(map, stamp, item) {
         put4(out, at, stamp);
         return at + 4;
     }
@@ -115,78 +89,54 @@ fn put_if(
 
 // The stamps of the nodes that wrote the item, rising; the place after them.
 fn put_stamps(
-    keys: &[u64],
-    next: &[usize],
-    head: &[usize],
-    vals: &[u64],
-    n: usize,
+    map: &[u64],
     nodes: &[u32],
     count: usize,
     item: u8,
     out: &mut [u8],
     at: usize,
 ) -> usize
-    requires { ⌜ (Ready (now keys) (now next) (now head) (now vals) n (now nodes) count) × (at + length (stampBytes (versionsBy (wroteIn (now keys) (now vals) n) (take count (now nodes)) item)) ≤ length (now out)) ⌝ }
-    ensures { λ r. ⌜ Placed (now (out .entry)) at (stampBytes (versionsBy (wroteIn (now (keys .entry)) (now (vals .entry)) n) (take count (now (nodes .entry))) item)) r (now (out .exit)) ⌝ }
+    requires { ⌜ (Ready (now map) (now nodes) count) × (at + length (stampBytes (versionsBy (writtenIn (tableOf (now map))) (take count (now nodes)) item)) ≤ length (now out)) ⌝ }
+    ensures { λ r. ⌜ Placed (now (out .entry)) at (stampBytes (versionsBy (writtenIn (tableOf (now (map .entry)))) (take count (now (nodes .entry))) item)) r (now (out .exit)) ⌝ }
 {
     let mut to = at;
     let mut i: usize = 0;
     while i < count {
-        to = put_if(keys, next, head, vals, n, nodes[i], item, out, to);
+        to = put_if(map, nodes[i], item, out, to);
         i += 1;
     }
     to
 }
 
 // The item's field, if it has a version; the place after it.
-fn put_field(
-    keys: &[u64],
-    next: &[usize],
-    head: &[usize],
-    vals: &[u64],
-    n: usize,
-    nodes: &[u32],
-    count: usize,
-    item: u8,
-    out: &mut [u8],
-    at: usize,
-) -> usize
-    requires { ⌜ (Ready (now keys) (now next) (now head) (now vals) n (now nodes) count) × (count ≤ mostCommitted) × (at + length (fieldBytes item (versionsBy (wroteIn (now keys) (now vals) n) (take count (now nodes)) item)) ≤ length (now out)) ⌝ }
-    ensures { λ r. ⌜ Placed (now (out .entry)) at (fieldBytes item (versionsBy (wroteIn (now (keys .entry)) (now (vals .entry)) n) (take count (now (nodes .entry))) item)) r (now (out .exit)) ⌝ }
+fn put_field(map: &[u64], nodes: &[u32], count: usize, item: u8, out: &mut [u8], at: usize) -> usize
+    requires { ⌜ (Ready (now map) (now nodes) count) × (count ≤ mostCommitted) × (at + length (fieldBytes item (versionsBy (writtenIn (tableOf (now map))) (take count (now nodes)) item)) ≤ length (now out)) ⌝ }
+    ensures { λ r. ⌜ Placed (now (out .entry)) at (fieldBytes item (versionsBy (writtenIn (tableOf (now (map .entry)))) (take count (now (nodes .entry))) item)) r (now (out .exit)) ⌝ }
 {
-    let versions = count_versions(keys, next, head, vals, n, nodes, count, item);
+    let versions = count_versions(map, nodes, count, item);
     if versions == 0 {
         return at;
     }
     put_front(out, at, item, versions);
-    put_stamps(keys, next, head, vals, n, nodes, count, item, out, at + 4)
+    put_stamps(map, nodes, count, item, out, at + 4)
 }
 
 // ---- the whole order
 
 // Writes the timestamp order at the buffer's front and answers its length; code 29 where the buffer is too short, and then nothing is written. No later
 // byte changes.
-pub fn write_timestamp_order(
-    keys: &[u64],
-    next: &[usize],
-    head: &[usize],
-    vals: &[u64],
-    n: usize,
-    nodes: &[u32],
-    count: usize,
-    out: &mut [u8],
-) -> Written
-    requires { ⌜ (Ready (now keys) (now next) (now head) (now vals) n (now nodes) count) × (count ≤ mostCommitted) ⌝ }
-    ensures { λ r. ⌜ Wrote (now (out .entry)) (orderBy (wroteIn (now (keys .entry)) (now (vals .entry)) n) (take count (now (nodes .entry)))) r (now (out .exit)) ⌝ }
+pub fn write_timestamp_order(map: &[u64], nodes: &[u32], count: usize, out: &mut [u8]) -> Written
+    requires { ⌜ (Ready (now map) (now nodes) count) × (count ≤ mostCommitted) ⌝ }
+    ensures { λ r. ⌜ Wrote (now (out .entry)) (orderBy (writtenIn (tableOf (now (map .entry)))) (take count (now (nodes .entry)))) r (now (out .exit)) ⌝ }
 {
-    let size = needed(keys, next, head, vals, n, nodes, count);
+    let size = needed(map, nodes, count);
     if out.len() < size {
         return Written::NoRoom;
     }
     let mut at: usize = 0;
     let mut item: u8 = 0;
     while item < ITEMS {
-        at = put_field(keys, next, head, vals, n, nodes, count, item, out, at);
+        at = put_field(map, nodes, count, item, out, at);
         item += 1;
     }
     Written::Bytes(size)

@@ -17,7 +17,7 @@ use Rattle.lists.specs.Member.{_∈_, Rising}
 use Rattle.lists.specs.Order.{insert}
 use Rattle.lists.proofs.TestLaws.{both-true, false-true}
 use Rattle.lists.proofs.PlaceLaws.{in-at}
-use Rattle.sorted.specs.Sorted.{Stands, isAt, Found, Shifted, Added}
+use Rattle.sorted.specs.Sorted.{Stands, isAt, Located, Shifted, Added}
 use Rattle.sorted.proofs.SearchLaws.{rises}
 
 -- ---- over a list
@@ -81,10 +81,10 @@ module _ (a : List ℕ) (n k r : ℕ) (w : n ≤ length a) (up : Rising 0 (take 
       let q : getD a (p .0) 0 ≡ k = sym (getD-take n a (p .0) 0 h) ∙ p .2 in
       elim (decLt (p .0) r) [ yes l ↦ omega (arith, st .before (p .0) l) | no g ↦ omega (arith, above e (p .0) (omega arith) h) ]
 
-  pub found-none : isAt a r n k ≡ false → Found a n k n
+  pub found-none : isAt a r n k ≡ false → Located a n k n
   found-none e = record { within = omega arith; here = λ h. absurd (omega arith); none = λ q. missing e }
 
-  pub found-at : isAt a r n k ≡ true → Found a n k r
+  pub found-at : isAt a r n k ≡ true → Located a n k r
   found-at e = let t = at-true a r n k e in record { within = st .within; here = λ h. t .1; none = λ q. absurd (omega (arith, t .0)) }
 
   -- nothing is to be added

@@ -20,7 +20,7 @@ abbrev pub isAt : List ℕ → (at n k : ℕ) → Bool
 isAt a at n k = ltb at n && eqb (getD a at 0) k
 
 -- r is the place of k among the first n of a, or n where it is none of them
-pub record Found (a : List ℕ) (n k r : ℕ) : Type 0 where
+pub record Located (a : List ℕ) (n k r : ℕ) : Type 0 where
   pub within : r ≤ n
   pub here : r < n → getD a r 0 ≡ k
   pub none : r ≡ n → ¬ (k ∈ take n a)

@@ -3,9 +3,9 @@ ghost use mathlib.Core.Path.{_≡_};
 ghost use Prim.Native.Nat.{_≤_, _<_};
 ghost use lib.ListN.{length, take};
 ghost use Rattle.lists.specs.Member.{Rising};
-ghost use Rattle.sorted.specs.Sorted.{Stands, isAt, Found, Shifted, Added};
+ghost use Rattle.sorted.specs.Sorted.{Stands, isAt, Located, Shifted, Added};
 
-// Where k stands among the first n, or where it would: the number of those below k. Found by halves.
+// Where k stands among the first n, or where it would: the number of those below k. Located by halves.
 fn place(a: &[u32], n: usize, k: u32) -> usize
     requires { ⌜ (n ≤ length (now a)) × Rising 0 (take n (now a)) ⌝ }
     ensures { λ r. ⌜ Stands (now (a .entry)) n k r ⌝ }
@@ -34,7 +34,7 @@ fn is_at(a: &[u32], at: usize, n: usize, k: u32) -> bool
 // The place of k among the first n, or n where it is none of them. Nothing changes.
 pub fn find(a: &[u32], n: usize, k: u32) -> usize
     requires { ⌜ (n ≤ length (now a)) × Rising 0 (take n (now a)) ⌝ }
-    ensures { λ r. ⌜ Found (now (a .entry)) n k r ⌝ }
+    ensures { λ r. ⌜ Located (now (a .entry)) n k r ⌝ }
 {
     let at = place(a, n, k);
     if is_at(a, at, n, k) { at } else { n }

@@ -9,13 +9,14 @@ use mathlib.Core.Logic.{_≢_}
 use mathlib.Core.List.{List, [], _∷_, _++_}
 use mathlib.Core.Bool.{Bool, true, false, cond, not, _&&_}
 use lib.Dec.{eqb, ltb}
-use lib.ListN.{length, getD, set, length-set}
-use lib.Seq.{getD-set-same, getD-set-other}
+use lib.ListN.{length, take, getD, set, length-set}
+use lib.Seq.{getD-set-same, getD-set-other, getD-take, length-take-le}
 use borrow.Author.Tests.{eq-eqb, ne-eqb, eqb-true, eqb-false, ltb-true, ltb-false, not-true}
-use Rattle.lists.specs.Member.{_∈_}
+use Rattle.lists.specs.Member.{_∈_, Rising}
 use Rattle.lists.specs.Order.{Distinct}
 use Rattle.lists.specs.Tests.{any}
 use Rattle.lists.proofs.PlaceLaws.{distinct-at}
+use Rattle.lists.proofs.RisingLaws.{rising-distinct}
 use Rattle.lists.proofs.TestLaws.{false-true, both-true, any-in, any-not, in-any, not-passed}
 use Rattle.log_format.specs.Bytes.{num4}
 use Rattle.history_rules.specs.WellFormed.{mostItem}
@@ -24,7 +25,8 @@ use Rattle.order_rules.specs.Reading.{stampsAt}
 use Rattle.order_rules.specs.Right.{isVersion, eachOnce}
 use Rattle.order_rules.specs.Ranks.{rankFrom, rankIn, rankAt}
 use Rattle.order_rules.proofs.ReadingLaws.{length-stampsAt}
-use Rattle.order_rules.proofs.RankLaws.{in-rank, no-rank, rank-in, rank-at, rank-other, rank-new}
+use Rattle.order_rules.proofs.RankLaws.{at-rank, in-rank, no-rank, rank-in, rank-at, rank-other, rank-new}
+use Rattle.sorted.specs.Sorted.{Located}
 use Rattle.version_order.specs.Judging.{Clear, cellOf, Noted, FieldRanked}
 
 -- a number over 0 is one that is not 0
@@ -44,22 +46,41 @@ ranked k l n = in-any k l (rank-in k l (omega (arith, n)))
 
 -- ---- one stamp
 
-module _ (wr : ℕ → ℕ → ℕ) (nodes : List ℕ) (x k place : ℕ) (rank : List ℕ) (p : ℕ) (is : p ≡ rankIn k nodes) where
+-- a stamp found among the first nodes has the rank after its place; one that is not has none
+pub located-rank : {a : List ℕ} {count k p : ℕ} → count ≤ length a → Rising 0 (take count a) → Located a count k p → p ≢ count → rankIn k (take count a) ≡ suc p
+located-rank {a} {count} {k} {p} w r f n =
+    let h = f .within in
+    let l : p < count = omega (arith, n) in
+    let z = length-take-le count a w in
+    let e : getD (take count a) p 0 ≡ k = getD-take count a p 0 l ∙ f .here l in
+    ap (λ (i : ℕ). rankIn i (take count a)) (sym e) ∙ at-rank 1 (take count a) (rising-distinct 0 (take count a) r) p (omega arith) ∙ omega arith
+
+pub located-none : {a : List ℕ} {count k p : ℕ} → Located a count k p → p ≡ count → rankIn k (take count a) ≡ 0
+located-none {a} {count} {k} f e = no-rank k 1 (take count a) (f .none e)
+
+a-node : (nodes : List ℕ) (k p : ℕ) → rankIn k nodes ≡ suc p → any (eqb k) nodes ≡ true
+a-node nodes k p is = ranked k nodes (λ z. omega arith)
+
+cell-is : (nodes : List ℕ) (x k p : ℕ) → rankIn k nodes ≡ suc p → cellOf nodes x k ≡ rankAt p x
+cell-is nodes x k p is = let z : rankIn k nodes - 1 ≡ p = omega arith in rw z
+
+module _ {wr : ℕ → ℕ → ℕ} {nodes : List ℕ} {x k place : ℕ} {rank : List ℕ} where
   -- no node
-  pub not-a-node : p ≡ 0 → Noted wr nodes x k place rank false rank
-  not-a-node z = record { answer = rw (unranked k nodes (sym is ∙ z)); cells = refl }
+  pub not-a-node : rankIn k nodes ≡ 0 → Noted wr nodes x k place rank false rank
+  not-a-node z = record { answer = rw (unranked k nodes z); cells = refl }
 
-  -- a node that did not write the item
-  pub not-written : ¬ (p ≡ 0) → differ (wr k x) 0 ≡ false → Noted wr nodes x k place rank false rank
-  not-written n w = record { answer = rw (ranked k nodes (λ z. n (is ∙ z)), w); cells = refl }
+  module _ (p : ℕ) (is : rankIn k nodes ≡ suc p) where
+    -- a node that did not write the item
+    pub not-written : differ (wr k x) 0 ≡ false → Noted wr nodes x k place rank false rank
+    not-written w = record { answer = rw (a-node nodes k _ is, w); cells = refl }
 
-  -- a version that has a rank
-  pub noted-twice : ¬ (p ≡ 0) → differ (wr k x) 0 ≡ true → ¬ (getD rank (rankAt (p - 1) x) 0 ≡ 0) → Noted wr nodes x k place rank false rank
-  noted-twice n w h = record { answer = rw (ranked k nodes (λ z. n (is ∙ z)), w, ← is, ne-eqb _ _ h); cells = refl }
+    -- a version that has a rank
+    pub noted-twice : differ (wr k x) 0 ≡ true → ¬ (getD rank (rankAt p x) 0 ≡ 0) → Noted wr nodes x k place rank false rank
+    noted-twice w h = record { answer = rw (a-node nodes k _ is, w, cell-is nodes x k _ is, ne-eqb _ _ h); cells = refl }
 
-  -- a version without one
-  pub noted-new : ¬ (p ≡ 0) → differ (wr k x) 0 ≡ true → getD rank (rankAt (p - 1) x) 0 ≡ 0 → Noted wr nodes x k place rank true (set rank (rankAt (p - 1) x) place)
-  noted-new n w h = record { answer = rw (ranked k nodes (λ z. n (is ∙ z)), w, ← is, eq-eqb _ _ h); cells = rw is }
+    -- a version without one
+    pub noted-new : differ (wr k x) 0 ≡ true → getD rank (rankAt p x) 0 ≡ 0 → Noted wr nodes x k place rank true (set rank (rankAt p x) place)
+    noted-new w h = record { answer = rw (a-node nodes k _ is, w, cell-is nodes x k _ is, eq-eqb _ _ h); cells = rw (cell-is nodes x k _ is) }
 
 -- ---- the stamps read one by one
 
@@ -85,7 +106,7 @@ pub record Noting (wr : ℕ → ℕ → ℕ) (nodes : List ℕ) (x : ℕ) (s : L
   pub others : (p y : ℕ) → p < length nodes → y ≤ mostItem → y ≢ x → getD rank (rankAt p y) 0 ≡ getD rank₀ (rankAt p y) 0
   pub size : length rank ≡ length rank₀
 
-module _ (wr : ℕ → ℕ → ℕ) (nodes : List ℕ) (distinct : Distinct nodes) (x : ℕ) (item : x ≤ mostItem) (s : List ℕ) (at n : ℕ) (rank₀ : List ℕ) where
+module _ {wr : ℕ → ℕ → ℕ} {nodes : List ℕ} {x : ℕ} {s : List ℕ} {at n : ℕ} {rank₀ : List ℕ} where
   pub noting-none : Clear nodes x rank₀ → Noting wr nodes x s at n rank₀ rank₀ 0
   unfolding rankFrom
   noting-none z =
@@ -93,7 +114,7 @@ module _ (wr : ℕ → ℕ → ℕ) (nodes : List ℕ) (distinct : Distinct node
       let b : n - 0 ≡ n = omega arith in
       record { most = omega arith; rest = rw (a, b); own = z; others = λ p y h l d. refl; size = refl }
 
-  module _ (rank : List ℕ) (i : ℕ) (g : Noting wr nodes x s at n rank₀ rank i) where
+  module _ {rank : List ℕ} {i : ℕ} (g : Noting wr nodes x s at n rank₀ rank i) where
     -- at the end
     pub noting-end : n ≤ i → FieldRanked wr nodes x (stampsAt s at n) rank₀ true rank
     unfolding eachOnce
@@ -103,7 +124,7 @@ module _ (wr : ℕ → ℕ → ℕ) (nodes : List ℕ) (distinct : Distinct node
         let z : n - i ≡ 0 = omega arith in
         record { answer = sym (g .rest ∙ rw z); own = λ _. subst (λ (j : ℕ). (p : ℕ) → p < length nodes → getD rank (rankAt p x) 0 ≡ rankIn (getD nodes p 0) (stampsAt s at j)) e (g .own); others = g .others }
 
-    module _ (less : i < n) (room : length nodes * 64 ≤ length rank) where
+    module _ (distinct : Distinct nodes) (item : x ≤ mostItem) (less : i < n) (room : length nodes * 64 ≤ length rank) where
       abbrev seen : List ℕ
       seen = stampsAt s at i
 
@@ -157,7 +178,7 @@ module _ (wr : ℕ → ℕ → ℕ) (nodes : List ℕ) (distinct : Distinct node
           others-next : (p y : ℕ) → p < length nodes → y ≤ mostItem → y ≢ x → getD (set rank (cellOf nodes x stamp) (i + 1)) (rankAt p y) 0 ≡ getD rank₀ (rankAt p y) 0
           others-next p y h l d = rw (getD-set-other rank (rankAt place x) (rankAt p y) (i + 1) 0 (λ f. d (omega arith))) (g .others p y h l d)
 
-      module _ (r : Bool) (rank′ : List ℕ) (noted : Noted wr nodes x stamp (i + 1) rank r rank′) where
+      module _ {r : Bool} {rank′ : List ℕ} (noted : Noted wr nodes x stamp (i + 1) rank r rank′) where
         -- a stamp noted
         pub noting-next : r ≡ true → Noting wr nodes x s at n rank₀ rank′ (i + 1)
         noting-next t =

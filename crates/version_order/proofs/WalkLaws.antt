@@ -154,23 +154,23 @@ pub record Walked (wr : ℕ → ℕ → ℕ) (nodes s rank : List ℕ) (at least
   pub fresh : (x : ℕ) → least ≤ x → ¬ (x ∈ items past)
   pub ranks : Ranks nodes (vsOf past) rank
 
-module _ (wr : ℕ → ℕ → ℕ) (nodes s : List ℕ) where
-  pub walked-none : (rank : List ℕ) → ((q : ℕ) → q < length nodes * 64 → getD rank q 0 ≡ 0) → Walked wr nodes s rank 0 0
+module _ {wr : ℕ → ℕ → ℕ} {nodes s : List ℕ} where
+  pub walked-none : {rank : List ℕ} → ((q : ℕ) → q < length nodes * 64 → getD rank q 0 ≡ 0) → Walked wr nodes s rank 0 0
   unfolding readOrder vsOf rankFrom
-  walked-none rank z =
+  walked-none {rank} z =
       record { past = []; read = refl; here = omega arith; test = λ rest. refl; fresh = λ x h m. in-nil m; ranks = λ p x h l. z (rankAt p x) (omega arith) }
 
   -- an order that is not right
-  not-right : (rank′ : List ℕ) → false ≡ rightBy wr nodes s → Ranked wr nodes s false rank′
-  not-right rank′ e = record { answer = e; ranks = λ t. false-true t }
+  not-right : {rank′ : List ℕ} → false ≡ rightBy wr nodes s → Ranked wr nodes s false rank′
+  not-right e = record { answer = e; ranks = λ t. false-true t }
 
-  module _ (rank : List ℕ) (at least : ℕ) (g : Walked wr nodes s rank at least) where
+  module _ {rank : List ℕ} {at least : ℕ} (g : Walked wr nodes s rank at least) where
     -- a new item's cells have no rank
     pub walked-clear : (x : ℕ) → least ≤ x → x ≤ mostItem → Clear nodes x rank
     unfolding rankFrom
     walked-clear x h l p i = g .ranks p x i l ∙ rw (vs-unseen (g .past) x (g .fresh x h))
 
-    module _ (x n : ℕ) (t : StandsAt s at x n) where
+    module _ {x n : ℕ} (t : StandsAt s at x n) where
       abbrev here : Field
       here = field x (stampsAt s (at + 4) n)
 
@@ -189,22 +189,22 @@ module _ (wr : ℕ → ℕ → ℕ) (nodes s : List ℕ) where
       -- its item does not rise
       pub falls : x < least → Ranked wr nodes s false rank
       unfolding sound
-      falls h = not-right rank (wrong (λ rest. rw (lt-leb least x h)))
+      falls h = not-right (wrong (λ rest. rw (lt-leb least x h)))
 
       -- it is over 63
       pub too-large : mostItem < x → Ranked wr nodes s false rank
       unfolding sound
-      too-large h = not-right rank (wrong (λ rest. over (leb least x) (leb x mostItem) (lt-leb x mostItem h) _))
+      too-large h = not-right (wrong (λ rest. over (leb least x) (leb x mostItem) (lt-leb x mostItem h) _))
         where
           over : (a b : Bool) → b ≡ false → (c : Bool) → (a && (b && c)) ≡ false
           over true b e c = rw e
           over false b e c = refl
 
-      module _ (h : least ≤ x) (l : x ≤ mostItem) (r : Bool) (rank′ : List ℕ) (f : FieldRanked wr nodes x (stampsAt s (at + 4) n) rank r rank′) where
+      module _ (h : least ≤ x) (l : x ≤ mostItem) {r : Bool} {rank′ : List ℕ} (f : FieldRanked wr nodes x (stampsAt s (at + 4) n) rank r rank′) where
         -- one of its stamps is refused
         pub refused : r ≡ false → Ranked wr nodes s false rank′
         unfolding sound
-        refused e = not-right rank′ (wrong (λ rest. rw (le-leb least x h, le-leb x mostItem l, sym (f .answer) ∙ e)))
+        refused e = not-right (wrong (λ rest. rw (le-leb least x h, le-leb x mostItem l, sym (f .answer) ∙ e)))
 
         -- the field is passed
         pub walked-next : r ≡ true → Walked wr nodes s rank′ (at + 4 + 4 * n) (x + 1)
@@ -229,7 +229,7 @@ module _ (wr : ℕ → ℕ → ℕ) (nodes s : List ℕ) where
                 let o = eqb-false y x q in
                 rw (vs-other (g .past) x (stampsAt s (at + 4) n) y o) (f .others p y i k o ∙ g .ranks p y i k)
 
-module _ (wr : ℕ → ℕ → ℕ) (nodes : List ℕ) (count : ℕ) (within : count ≤ length nodes) (s rank : List ℕ) (at least : ℕ) (g : Walked wr (take count nodes) s rank at least) where
+module _ {wr : ℕ → ℕ → ℕ} (nodes : List ℕ) (count : ℕ) (within : count ≤ length nodes) {s rank : List ℕ} {at least : ℕ} (g : Walked wr (take count nodes) s rank at least) where
   -- no field stands at the place, and bytes are left
   broken : foundAt s at ≡ Bad → false ≡ rightBy wr (take count nodes) s
   unfolding rightBy

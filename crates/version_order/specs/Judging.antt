@@ -7,11 +7,11 @@ use mathlib.Core.List.{List, []}
 use mathlib.Core.Bool.{Bool, true, false, cond, not, _&&_}
 use lib.Dec.{eqb}
 use lib.ListN.{length, take, getD, set}
+use Rattle.numbers.specs.Numbers.{items}
 use Rattle.lists.specs.Member.{Rising}
 use Rattle.history_rules.specs.WellFormed.{mostItem}
 use Rattle.history_rules.specs.Faults.{differ}
-use Rattle.history_rules.specs.Held.{writtenIn}
-use Rattle.index.specs.Index.{Table, lookup}
+use Rattle.index.specs.Index.{Table}
 use Rattle.order_rules.specs.Fields.{vsOf}
 use Rattle.order_rules.specs.Reading.{fieldsOf}
 use Rattle.order_rules.specs.Right.{isVersion, eachOnce, someBelow, rightBy}
@@ -19,13 +19,9 @@ use Rattle.order_rules.specs.Ranks.{rankIn, rankAt, Ranks}
 use Rattle.order_rules.specs.declared.Found.{Found}
 use Rattle.order_rules.specs.declared.Found.the-variants.{Stamps, End, Bad}
 
--- what the map says that each transaction wrote
-abbrev pub wroteIn : List ℕ → List ℕ → ℕ → ℕ → ℕ → ℕ
-wroteIn keys vals n = writtenIn (lookup keys vals n)
-
 -- the map can be asked, and the first `count` nodes rise
-pub record Ready (keys next head vals : List ℕ) (n : ℕ) (nodes : List ℕ) (count : ℕ) : Type 0 where
-  pub table : Table keys next head vals n
+pub record Ready (m nodes : List ℕ) (count : ℕ) : Type 0 where
+  pub table : Table m
   pub within : count ≤ length nodes
   pub rising : Rising 0 (take count nodes)
 
@@ -50,12 +46,12 @@ pub record FieldRanked (wr : ℕ → ℕ → ℕ) (nodes : List ℕ) (x : ℕ) (
 
 -- a committed version whose cell has no rank
 abbrev pub gapAt : (ℕ → ℕ → ℕ) → List ℕ → List ℕ → ℕ → Bool
-gapAt wr nodes rank q = eqb (getD rank q 0) 0 && differ (wr (getD nodes (q / 64) 0) (q % 64)) 0
+gapAt wr nodes rank q = eqb (getD rank q 0) 0 && differ (wr (getD nodes (q / items) 0) (q % items)) 0
 
 -- what is answered where no further field stands: at the end, whether there is no such gap
 abbrev pub endedBy : (ℕ → ℕ → ℕ) → List ℕ → List ℕ → ℕ → Found → Bool
 endedBy wr nodes rank count (Stamps x n) = false
-endedBy wr nodes rank count End = not (someBelow (gapAt wr nodes rank) (count * 64))
+endedBy wr nodes rank count End = not (someBelow (gapAt wr nodes rank) (count * items))
 endedBy wr nodes rank count Bad = false
 
 -- the whole order judged: the answer is the test of code 28; if it passes, each cell has its rank

@@ -5,24 +5,25 @@ ghost use mathlib.Core.Bool.{not, _&&_};
 ghost use Prim.Native.Nat.{ℕ, _+_, _-_, _*_, _≤_, _<_};
 ghost use lib.Dec.{eqb};
 ghost use lib.ListN.{length, take, getD};
-ghost use Rattle.lists.specs.Member.{Rising};
+ghost use Rattle.numbers.specs.Numbers.{items};
 ghost use Rattle.history_rules.specs.WellFormed.{mostItem};
 ghost use Rattle.history_rules.specs.Faults.{differ};
-ghost use Rattle.index.specs.Index.{Table};
+ghost use Rattle.history_rules.specs.Held.{writtenIn};
+ghost use Rattle.index.specs.Index.{tableOf, Table};
 ghost use Rattle.order_rules.specs.Reading.{foundAt, bodied, stampsAt};
 ghost use Rattle.order_rules.specs.Right.{someBelow};
 ghost use Rattle.order_rules.specs.Ranks.{rankIn};
-ghost use Rattle.version_order.specs.Judging.{wroteIn, Ready, Clear, gapAt, endedBy, Noted, FieldRanked, Ranked};
+ghost use Rattle.version_order.specs.Judging.{Ready, Clear, gapAt, endedBy, Noted, FieldRanked, Ranked};
+use log_format::Stamp;
 use log_reader::be32;
 use log_reader::body_len;
 use order_rules::Found;
 
 // The tag of a version order's fields.
 const TAG: u8 = 32;
-// The largest item, and how many there are.
-const MOST_ITEM: u8 = 63;
 
-const ITEMS: usize = 64;
+// The largest item, as a field has it.
+const MAX_ITEM: u8 = numbers::MAX_ITEM as u8;
 
 // A field of a version order: its item, its place, and how many stamps it has.
 struct Field {
@@ -60,54 +61,21 @@ fn found_at(order: &[u8], at: usize) -> Found
     Found::Bad
 }
 
-// ---- who is committed, and what they wrote
-
-// One more than the place of the stamp among the first `count` nodes, or 0.
-pub fn node_of(nodes: &[u32], count: usize, stamp: u32) -> usize
-    requires { ⌜ (count ≤ length (now nodes)) × Rising 0 (take count (now nodes)) ⌝ }
-    ensures { λ r. ⌜ (r ≡ rankIn stamp (take count (now (nodes .entry)))) × (r ≤ count) ⌝ }
-{
-    let mut lo: usize = 0;
-    let mut hi: usize = count;
-    while lo < hi {
-        let mid = lo + (hi - lo) / 2;
-        if nodes[mid] == stamp {
-            return mid + 1;
-        }
-        if nodes[mid] < stamp {
-            lo = mid + 1;
-        } else {
-            hi = mid;
-        }
-    }
-    0
-}
+// ---- what the committed wrote
 
 // Whether the map says that the transaction wrote the item.
-pub fn wrote(
-    keys: &[u64],
-    next: &[usize],
-    head: &[usize],
-    vals: &[u64],
-    n: usize,
-    stamp: u32,
-    item: u8,
-) -> bool
-    requires { ⌜ Table (now keys) (now next) (now head) (now vals) n ⌝ }
-    ensures { λ r. ⌜ r ≡ differ (wroteIn (now (keys .entry)) (now (vals .entry)) n stamp item) 0 ⌝ }
+pub fn wrote(map: &[u64], stamp: u32, item: u8) -> bool
+    requires { ⌜ Table (now map) ⌝ }
+    ensures { λ r. ⌜ r ≡ differ (writtenIn (tableOf (now (map .entry))) stamp item) 0 ⌝ }
 {
-    0 < index::get(keys, next, head, vals, n, stamp as u64 * 128 + item as u64)
+    0 < transactions::written_of(map, Stamp(stamp), item)
 }
 
 // ---- the ranks
 
 // Notes the stamp as the item's version with this rank. Answers false, and changes nothing, where it is no committed version of the item or has a rank.
 fn note(
-    keys: &[u64],
-    next: &[usize],
-    head: &[usize],
-    vals: &[u64],
-    n: usize,
+    map: &[u64],
     nodes: &[u32],
     count: usize,
     item: u8,
@@ -115,15 +83,15 @@ fn note(
     place: u16,
     rank: &mut [u16],
 ) -> bool
-    requires { ⌜ (Ready (now keys) (now next) (now head) (now vals) n (now nodes) count) × (item ≤ mostItem) × (count * 64 ≤ length (now rank)) ⌝ }
-    ensures { λ r. ⌜ Noted (wroteIn (now (keys .entry)) (now (vals .entry)) n) (take count (now (nodes .entry))) item stamp place (now (rank .entry)) r (now (rank .exit)) ⌝ }
+    requires { ⌜ (Ready (now map) (now nodes) count) × (item ≤ mostItem) × (count * items ≤ length (now rank)) ⌝ }
+    ensures { λ r. ⌜ Noted (writtenIn (tableOf (now (map .entry)))) (take count (now (nodes .entry))) item stamp place (now (rank .entry)) r (now (rank .exit)) ⌝ }
 {
-    let p = node_of(nodes, count, stamp);
-    if p == 0 {
+    let p = sorted::find(nodes, count, stamp);
+    if p == count {
         return false;
     }
-    if wrote(keys, next, head, vals, n, stamp, item) {
-        let cell = (p - 1) * ITEMS + item as usize;
+    if wrote(map, stamp, item) {
+        let cell = p * numbers::ITEMS + item as usize;
         if rank[cell] == 0 {
             rank[cell] = place;
             return true;
@@ -138,26 +106,18 @@ fn note(
 fn note_all(
     order: &[u8],
     field: Field,
-    keys: &[u64],
-    next: &[usize],
-    head: &[usize],
-    vals: &[u64],
-    n: usize,
+    map: &[u64],
     nodes: &[u32],
     count: usize,
     rank: &mut [u16],
 ) -> bool
-    requires { ⌜ (field .at + 4 + 4 * field .number ≤ length (now order)) × (field .number < 16384) × (Ready (now keys) (now next) (now head) (now vals) n (now nodes) count) × (field .item ≤ mostItem) × (count * 64 ≤ length (now rank)) × Clear (take count (now nodes)) (field .item) (now rank) ⌝ }
-    ensures { λ r. ⌜ FieldRanked (wroteIn (now (keys .entry)) (now (vals .entry)) n) (take count (now (nodes .entry))) (field .item) (stampsAt (now (order .entry)) (field .at + 4) (field .number)) (now (rank .entry)) r (now (rank .exit)) ⌝ }
+    requires { ⌜ (field .at + 4 + 4 * field .number ≤ length (now order)) × (field .number < 16384) × (Ready (now map) (now nodes) count) × (field .item ≤ mostItem) × (count * items ≤ length (now rank)) × Clear (take count (now nodes)) (field .item) (now rank) ⌝ }
+    ensures { λ r. ⌜ FieldRanked (writtenIn (tableOf (now (map .entry)))) (take count (now (nodes .entry))) (field .item) (stampsAt (now (order .entry)) (field .at + 4) (field .number)) (now (rank .entry)) r (now (rank .exit)) ⌝ }
 {
     let mut i: usize = 0;
     while i < field.number {
         if note(
-            keys,
-            next,
-            head,
-            vals,
-            n,
+            map,
             nodes,
             count,
             field.item,
@@ -176,50 +136,28 @@ fn note_all(
 // ---- none left out
 
 // Whether the node and item of a cell have a committed version without a rank.
-fn gap(
-    keys: &[u64],
-    next: &[usize],
-    head: &[usize],
-    vals: &[u64],
-    n: usize,
-    nodes: &[u32],
-    rank: &[u16],
-    cell: usize,
-) -> bool
-    requires { ⌜ (Table (now keys) (now next) (now head) (now vals) n) × (cell < length (now nodes) * 64) × (cell < length (now rank)) ⌝ }
-    ensures { λ r. ⌜ r ≡ gapAt (wroteIn (now (keys .entry)) (now (vals .entry)) n) (now (nodes .entry)) (now (rank .entry)) cell ⌝ }
+fn gap(map: &[u64], nodes: &[u32], rank: &[u16], cell: usize) -> bool
+    requires { ⌜ (Table (now map)) × (cell < length (now nodes) * items) × (cell < length (now rank)) ⌝ }
+    ensures { λ r. ⌜ r ≡ gapAt (writtenIn (tableOf (now (map .entry)))) (now (nodes .entry)) (now (rank .entry)) cell ⌝ }
 {
     if rank[cell] == 0 {
         return wrote(
-            keys,
-            next,
-            head,
-            vals,
-            n,
-            nodes[cell / ITEMS],
-            (cell % ITEMS) as u8,
+            map,
+            nodes[cell / numbers::ITEMS],
+            (cell % numbers::ITEMS) as u8,
         );
     }
     false
 }
 
 // Whether each committed version has a rank.
-fn all_ranked(
-    keys: &[u64],
-    next: &[usize],
-    head: &[usize],
-    vals: &[u64],
-    n: usize,
-    nodes: &[u32],
-    count: usize,
-    rank: &[u16],
-) -> bool
-    requires { ⌜ (Ready (now keys) (now next) (now head) (now vals) n (now nodes) count) × (count * 64 ≤ length (now rank)) ⌝ }
-    ensures { λ r. ⌜ r ≡ not (someBelow (gapAt (wroteIn (now (keys .entry)) (now (vals .entry)) n) (now (nodes .entry)) (now (rank .entry))) (count * 64)) ⌝ }
+fn all_ranked(map: &[u64], nodes: &[u32], count: usize, rank: &[u16]) -> bool
+    requires { ⌜ (Ready (now map) (now nodes) count) × (count * items ≤ length (now rank)) ⌝ }
+    ensures { λ r. ⌜ r ≡ not (someBelow (gapAt (writtenIn (tableOf (now (map .entry)))) (now (nodes .entry)) (now (rank .entry))) (count * items)) ⌝ }
 {
     let mut cell: usize = 0;
-    while cell < count * ITEMS {
-        if gap(keys, next, head, vals, n, nodes, rank, cell) {
+    while cell < count * numbers::ITEMS {
+        if gap(map, nodes, rank, cell) {
             return false;
         }
         cell += 1;
@@ -228,23 +166,13 @@ fn all_ranked(
 }
 
 // What is answered where no further field stands: at the end whether each committed version has a rank, else false.
-fn ended(
-    found: Found,
-    keys: &[u64],
-    next: &[usize],
-    head: &[usize],
-    vals: &[u64],
-    n: usize,
-    nodes: &[u32],
-    count: usize,
-    rank: &[u16],
-) -> bool
-    requires { ⌜ (Ready (now keys) (now next) (now head) (now vals) n (now nodes) count) × (count * 64 ≤ length (now rank)) ⌝ }
-    ensures { λ r. ⌜ r ≡ endedBy (wroteIn (now (keys .entry)) (now (vals .entry)) n) (now (nodes .entry)) (now (rank .entry)) count found ⌝ }
+fn ended(found: Found, map: &[u64], nodes: &[u32], count: usize, rank: &[u16]) -> bool
+    requires { ⌜ (Ready (now map) (now nodes) count) × (count * items ≤ length (now rank)) ⌝ }
+    ensures { λ r. ⌜ r ≡ endedBy (writtenIn (tableOf (now (map .entry)))) (now (nodes .entry)) (now (rank .entry)) count found ⌝ }
 {
     match found {
         Found::Stamps(_, _) => false,
-        Found::End => all_ranked(keys, next, head, vals, n, nodes, count, rank),
+        Found::End => all_ranked(map, nodes, count, rank),
         Found::Bad => false,
     }
 }
@@ -252,35 +180,25 @@ fn ended(
 // ---- the whole order
 
 // Whether the bytes are a right version order, code 28 where not. If so, each cell has the rank of its node's version of its item, 0 where there is none.
-pub fn ranks(
-    order: &[u8],
-    keys: &[u64],
-    next: &[usize],
-    head: &[usize],
-    vals: &[u64],
-    n: usize,
-    nodes: &[u32],
-    count: usize,
-    rank: &mut [u16],
-) -> bool
-    requires { ⌜ (Ready (now keys) (now next) (now head) (now vals) n (now nodes) count) × (count * 64 ≤ length (now rank)) × ((p : ℕ) → p < count * 64 → getD (now rank) p 0 ≡ 0) ⌝ }
-    ensures { λ r. ⌜ Ranked (wroteIn (now (keys .entry)) (now (vals .entry)) n) (take count (now (nodes .entry))) (now (order .entry)) r (now (rank .exit)) ⌝ }
+pub fn ranks(order: &[u8], map: &[u64], nodes: &[u32], count: usize, rank: &mut [u16]) -> bool
+    requires { ⌜ (Ready (now map) (now nodes) count) × (count * items ≤ length (now rank)) × ((p : ℕ) → p < count * items → getD (now rank) p 0 ≡ 0) ⌝ }
+    ensures { λ r. ⌜ Ranked (writtenIn (tableOf (now (map .entry)))) (take count (now (nodes .entry))) (now (order .entry)) r (now (rank .exit)) ⌝ }
 {
     let mut at: usize = 0;
     let mut least: u8 = 0;
     loop {
         let found = found_at(order, at);
         let Found::Stamps(item, number) = found else {
-            return ended(found, keys, next, head, vals, n, nodes, count, rank);
+            return ended(found, map, nodes, count, rank);
         };
         if item < least {
             return false;
         }
-        if MOST_ITEM < item {
+        if MAX_ITEM < item {
             return false;
         }
         let field = Field { item, at, number };
-        if note_all(order, field, keys, next, head, vals, n, nodes, count, rank) {
+        if note_all(order, field, map, nodes, count, rank) {
             least = item + 1;
             at = at + 4 + 4 * number;
         } else {

@@ -4,18 +4,21 @@ use borrow.Author.Needs.{needs}
 use borrow.Author.Count.{below-none, below-more}
 use native.Mathlib.Omega.{arith}
 use Prim.Native.Nat.{ℕ, _-_, _*_, _≤_, _<_}
-use mathlib.Core.Path.{_≡_, refl, sym, ap, _∙_}
+use mathlib.Core.Path.{_≡_, sym, ap, _∙_}
 use mathlib.Core.Bool.{false, not}
+use Rattle.numbers.specs.Numbers.{items}
+use Rattle.history_rules.specs.Held.{writtenIn}
+use Rattle.index.specs.Index.{tableOf}
 use Rattle.order_rules.proofs.RightLaws.{none-below, some-below}
-use Rattle.version_order.specs.Judging.{wroteIn, gapAt}
+use Rattle.version_order.specs.Judging.{gapAt}
 use Rattle.version_order.proofs.all_ranked.Statement.{statement}
 use Rattle.version_order.proofs.all_ranked.Tie as tie
 
 abbrev Inv-loop : tie.InvT-loop
-Inv-loop keys next head vals n nodes count rank cell₀ cell = (cell ≤ count * 64) × ((q : ℕ) → q < cell → gapAt (wroteIn keys vals n) nodes rank q ≡ false)
+Inv-loop map nodes count rank cell₀ cell = (cell ≤ count * items) × ((q : ℕ) → q < cell → gapAt (writtenIn (tableOf map)) nodes rank q ≡ false)
 
 abbrev μ-loop : tie.MeasureT-loop
-μ-loop keys next head vals n nodes count rank cell₀ cell = count * 64 - cell
+μ-loop map nodes count rank cell₀ cell = count * items - cell
 
 loop-holds : tie.Need-loop-holds Inv-loop μ-loop
 loop-holds c = (search needs, λ q h. absurd (omega arith))
@@ -27,7 +30,8 @@ gap-requires : tie.Need-gap-requires Inv-loop μ-loop
 gap-requires c κs = search needs
 
 returns : tie.Need-returns Inv-loop μ-loop
-returns c = sym (ap not (some-below _ _ (c .before .before .before .loop .cell) (omega arith) (sym (c .before .gap .ensures) ∙ c .if1 .taken)))
+returns c =
+    sym (ap not (some-below _ _ (c .before .before .before .loop .cell) (omega arith) (sym (c .before .gap .ensures) ∙ c .if1 .taken)))
 
 add-cell : tie.Need-add-cell Inv-loop μ-loop
 add-cell c = search needs
@@ -36,12 +40,13 @@ loop-less : tie.Need-loop-less Inv-loop μ-loop
 loop-less c = search needs
 
 loop-again : tie.Need-loop-again Inv-loop μ-loop
-loop-again c = (search needs, below-more _ _ (c .before .before .before .loop .inv .1) (sym (c .before .gap .ensures) ∙ c .if1 .left))
+loop-again c =
+    (search needs, below-more _ _ (c .before .before .before .loop .inv .1) (sym (c .before .gap .ensures) ∙ c .if1 .left))
 
 returns-2 : tie.Need-returns-2 Inv-loop μ-loop
 returns-2 c =
     let l = c .before .loop .inv in
-    sym (ap not (none-below _ _ (λ q h. c .before .loop .inv .1 q (omega arith))))
+    sym (ap not (none-below _ _ (λ q h. l .1 q (omega arith))))
 
 pub all-ranked-spec : {M : Type 1} → statement M
 all-ranked-spec =
