@@ -14,6 +14,7 @@ ghost use Rattle.history_rules.specs.Held.{stageIn};
 ghost use Rattle.index.specs.Index.{tableOf, Table};
 ghost use Rattle.history.specs.Judging.{stoppedWith, Lent, Walked, later, Judgement};
 ghost use Rattle.history.specs.Nodes.{Passes, WithCommit, Nodes};
+ghost use Rattle.history.specs.Reads.{ReadIs};
 use log_format::Decoded;
 use log_format::Place;
 use log_format::Record;
@@ -130,7 +131,7 @@ fn settle(log: &[u8], map: &[u64], k: usize) -> Judged
 // ---- the whole
 
 // A log judged, with the map of its transactions in the lent words where it passes.
-pub fn judge(log: &[u8], map: &mut [u64]) -> Judged
+fn judge(log: &[u8], map: &mut [u64]) -> Judged
     requires { ⌜ Lent (now map) ⌝ }
     ensures { λ r. ⌜ Judgement (now (log .entry)) (now (map .exit)) r ⌝ }
 {
@@ -158,7 +159,7 @@ fn with_commit(nodes: &mut [u32], n: usize, r: Record) -> usize
 }
 
 // The stamps of the committed transactions of a log that passes, rising, and their count. No place past them changes.
-pub fn gather(log: &[u8], nodes: &mut [u32]) -> usize
+fn gather(log: &[u8], nodes: &mut [u32]) -> usize
     requires { ⌜ (Passes (now log)) × (mostCommitted ≤ length (now nodes)) ⌝ }
     ensures { λ r. ⌜ Nodes (now (log .entry)) (now (nodes .entry)) (now (nodes .exit)) r ⌝ }
 {
@@ -172,4 +173,20 @@ pub fn gather(log: &[u8], nodes: &mut [u32]) -> usize
         n = with_commit(nodes, n, r);
         at = p.0;
     }
+}
+
+// ---- a log read
+
+// Reads a log, for any bytes: a refusal's code and place, or how many transactions committed. Where it passes, the map has its transactions, and the
+// first nodes are the stamps of the committed ones, rising.
+pub fn read_history(log: &[u8], map: &mut [u64], nodes: &mut [u32]) -> Judged
+    requires { ⌜ (Lent (now map)) × (mostCommitted ≤ length (now nodes)) ⌝ }
+    ensures { λ r. ⌜ ReadIs (now (log .entry)) (now (map .exit)) (now (nodes .exit)) r ⌝ }
+{
+    let j = judge(log, map);
+    let Judged::Passed(_) = j else {
+        return j;
+    };
+    let count = gather(log, nodes);
+    Judged::Passed(count)
 }

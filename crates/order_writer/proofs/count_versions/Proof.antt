@@ -5,20 +5,39 @@ use mir.Val.{boolByte}
 use Rattle.order_writer.proofs.WritingLaws.{versions-next, flag-few}
 use borrow.Author.Needs.{needs}
 use native.Mathlib.Omega.{arith}
-use Prim.Native.Nat.{_-_, _+_, _≤_}
-use mathlib.Core.Path.{_≡_, refl, sym, _∙_}
+use Prim.Native.Nat.{ℕ, _-_, _≤_}
+use mathlib.Core.Path.{_≡_, refl, subst}
 use lib.ListN.{length, take}
 use Rattle.order_rules.specs.Timestamps.{versionsBy}
-use Rattle.version_order.specs.Judging.{wroteIn}
-use Rattle.order_writer.proofs.WritingLaws.{versions-next}
+use Rattle.history_rules.specs.Held.{writtenIn}
+use Rattle.index.specs.Index.{tableOf}
 use Rattle.order_writer.proofs.count_versions.Statement.{statement}
 use Rattle.order_writer.proofs.count_versions.Tie as tie
 
 abbrev Inv-loop : tie.InvT-loop
-Inv-loop keys next head vals n nodes count item versions₀ i₀ versions i = (versions ≡ length (versionsBy (wroteIn keys vals n) (take i nodes) item)) × (i ≤ count) × (versions ≤ i)
+Inv-loop map nodes count item versions₀ i₀ versions i = (versions ≡ length (versionsBy (writtenIn (tableOf map)) (take i nodes) item)) × (i ≤ count) × (versions ≤ i)
 
 abbrev μ-loop : tie.MeasureT-loop
-μ-loop keys next head vals n nodes count item versions₀ i₀ versions i = count - i
+μ-loop map nodes count item versions₀ i₀ versions i = count - i
+
+-- ---- places
+
+abbrev start-from-after-loop : tie.After-loop Inv-loop μ-loop → tie.Start Inv-loop μ-loop
+start-from-after-loop c = c .before .before .before .before
+
+abbrev loop-from-after-loop : tie.After-loop Inv-loop μ-loop → tie.At-loop Inv-loop μ-loop
+loop-from-after-loop c = c .before
+
+abbrev start-from-wrote : tie.After-wrote Inv-loop μ-loop → tie.Start Inv-loop μ-loop
+start-from-wrote c = c .before .before .before .before .before .before
+
+abbrev loop-from-wrote : tie.After-wrote Inv-loop μ-loop → tie.At-loop Inv-loop μ-loop
+loop-from-wrote c = c .before .before .before
+
+abbrev in-loop-from-wrote : tie.After-wrote Inv-loop μ-loop → tie.In-loop Inv-loop μ-loop
+in-loop-from-wrote c = c .before .before
+
+-- ---- needs
 
 loop-holds : tie.Need-loop-holds Inv-loop μ-loop
 unfolding versionsBy
@@ -49,18 +68,21 @@ loop-less c = search needs
 
 loop-again : tie.Need-loop-again Inv-loop μ-loop
 loop-again c =
-    let a = c .before .before .before .before .before .before .before .before .before .args in
-    let m = c .before .before .before .loop in
+    let a = (start-from-wrote c) .args in
+    let m = (loop-from-wrote c) .loop in
     let h = flag-few (c .wrote .result) in
     let e = ap boolByte (c .wrote .ensures) in
-    let w = c .before .before .before .before .before .before .before .before .before .pre .within in
-    let v = versions-next (wroteIn (a .keys .now) (a .vals .now) (a .n)) (a .item) (a .nodes .now) (a .count) (c .before .before .before .before .before .before .before .before .before .pre .within) (m .i) (c .before .before .loop-test .taken) in
+    let w = (start-from-wrote c) .pre .within in
+    let v = versions-next (writtenIn (tableOf (a .map .now))) (a .item) (a .nodes .now) (a .count) ((start-from-wrote c) .pre .within) (m .i) ((in-loop-from-wrote c) .loop-test .taken) in
     (omega arith, omega arith, omega arith)
 
 returns : tie.Need-returns Inv-loop μ-loop
 returns c =
-    let e : c .before .loop .i ≡ c .before .before .before .before .before .before .before .args .count = omega arith in
-    (rw e at (c .before .loop .inv .0), search needs)
+    let a = (start-from-after-loop c) .args in
+    let l = (loop-from-after-loop c) .loop in
+    let e : l .i ≡ a .count = omega arith in
+    let wr = writtenIn (tableOf (a .map .now)) in
+    (subst (λ (i : ℕ). l .versions ≡ length (versionsBy wr (take i (a .nodes .now)) (a .item))) e (l .inv .0), search needs)
 
 pub count-versions-spec : {M : Type 1} → statement M
 count-versions-spec =
