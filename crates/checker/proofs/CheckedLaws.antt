@@ -6,22 +6,21 @@ use native.Mathlib.Omega.{arith}
 use mathlib.Core.Path.{_≡_, refl, sym, ap, _∙_, subst}
 use mathlib.Core.List.{List}
 use mathlib.Core.Bool.{Bool, true, false}
-use lib.ListN.{length, take}
+use lib.ListN.{length, take, getD, replicate, length-replicate, getD-replicate}
+use Rattle.numbers.specs.Numbers.{items, maxCommitted}
 use Rattle.log_format.specs.Bytes.{Bytes, stampBytes, splice}
-use Rattle.index.specs.Index.{lookup}
-use Rattle.history.specs.Nodes.{Nodes}
+use Rattle.history_rules.specs.Held.{writtenIn}
+use Rattle.index.specs.Index.{tableOf}
+use Rattle.history.specs.Reads.{ReadLog}
 use Rattle.graph_theory.specs.Verdict.{Verdict, accepted, cycle, stampsOf}
-use Rattle.serial_theory.specs.Edges.{VersionOrder}
 use Rattle.serial_theory.specs.Judged.{verdict}
 use Rattle.order_rules.specs.Fields.{vsOf}
 use Rattle.order_rules.specs.Reading.{fieldsOf}
 use Rattle.order_rules.specs.Right.{rightOrder}
 use Rattle.order_rules.proofs.TableLaws.{right-held}
 use Rattle.order_rules.proofs.RightLaws.{passes-order}
-use Rattle.version_order.specs.Judging.{wroteIn}
 use Rattle.version_order.specs.Judging.{Ranked as Judged·Ranked}
 use Rattle.drawing.specs.Drawing.{Tables}
-use Rattle.edges.specs.Ranked.{Ranked}
 use Rattle.graph.specs.Answer.{Answered, foundOf}
 use Rattle.graph.specs.declared.Found.{Found}
 use Rattle.graph.specs.declared.Found.the-variants.{Accepted as Found·Accepted, Cycle as Found·Cycle}
@@ -29,8 +28,7 @@ use Rattle.checker_rules.specs.Answers.{CheckIs, judged, answerFor, checkedOf, 
 use Rattle.checker_rules.specs.declared.Checked.{Checked}
 use Rattle.checker_rules.specs.declared.Checked.the-variants.{Accepted, Cycle, Refused}
 use Rattle.checker_rules.proofs.CheckLaws.{order-refused, room-refused, judged-answer}
-use Rattle.checker.specs.Reads.{ReadLog, GraphIs}
-use Rattle.checker.proofs.OrderedLaws.{well, nodes-are, number-is, few, rising}
+use Rattle.checker.specs.Reads.{GraphIs}
 use Rattle.checker.proofs.RankedLaws.{ranked}
 
 -- what the graph found, as the checker says it
@@ -53,36 +51,33 @@ answered-is s order b v f b′ e a = record {
   bytes = a .bytes ∙ ap (λ (l : List ℕ). splice b 0 (stampBytes l)) (stamps-are v) ∙ rw e;
 }
 
-module _ (s keys next head vals : List ℕ) (rows : ℕ) (by : Bytes s) (r : ReadLog s keys next head vals rows) (a nodes : List ℕ) (count : ℕ) (n : Nodes s a nodes count) where
+-- the ranks before the order is judged: zeros, enough for every committed transaction and item
+pub blank-ranks : {count : ℕ} → count ≤ maxCommitted
+    → (count * items ≤ length (replicate {A = ℕ} (maxCommitted * items) 0)) × ((p : ℕ) → p < count * items → getD {A = ℕ} (replicate (maxCommitted * items) 0) p 0 ≡ 0)
+blank-ranks {count} f =
+    (omega (arith, length-replicate {A = ℕ} (maxCommitted * items) 0), λ p h. getD-replicate {A = ℕ} (maxCommitted * items) p 0 0 (omega arith))
+
+module _ {s m nodes : List ℕ} {count : ℕ} (r : ReadLog s m nodes count) where
   -- the tables that drawing takes
-  pub tables : (rank : List ℕ) → length nodes ≡ 256 → length rank ≡ 16384 → Tables nodes rank count
-  tables rank w k =
-      let f = few s keys next head vals rows by r a nodes count n in
-      record { few = f; within = omega arith; rising = rising s keys next head vals rows by r a nodes count n; ranks = omega arith }
+  pub tables : {rank : List ℕ} → length rank ≡ maxCommitted * items → Tables nodes rank count
+  tables k = let f = r .few in record { few = f; within = r .within; rising = r .rising; ranks = omega arith }
 
-  module _ (order rank : List ℕ) (q : Bool) (k : Judged·Ranked (wroteIn keys vals rows) (take count nodes) order q rank) (b : List ℕ) where
+  module _ {order rank : List ℕ} {q : Bool} (k : Judged·Ranked (writtenIn (tableOf m)) (take count nodes) order q rank) where
     right-is : q ≡ rightOrder (r .log) order
-    right-is = k .answer ∙ rw (nodes-are s keys next head vals rows by r a nodes count n) (right-held (r .log) (lookup keys vals rows) (r .holds) order)
+    right-is = k .answer ∙ rw (r .first) (right-held (r .log) (tableOf m) (r .holds) order)
 
-    pub order-wrong : q ≡ false → CheckIs s order b (Refused 28 (record { 0 = 0 })) b
-    order-wrong e = order-refused s order b (r .log) (r .passes) (sym right-is ∙ e)
+    pub order-wrong : {b : List ℕ} → q ≡ false → CheckIs s order b (Refused 28 (record { 0 = 0 })) b
+    order-wrong {b} e = order-refused s order b (r .log) (r .passes) (sym right-is ∙ e)
 
-    pub no-room-left : q ≡ true → length b < 4 * count → CheckIs s order b (Refused 29 (record { 0 = 0 })) b
-    no-room-left e l =
-        let c = number-is s keys next head vals rows by r a nodes count n in
-        room-refused s order b (r .log) (r .passes) (sym right-is ∙ e) (omega (arith, c, l))
+    pub no-room-left : {b : List ℕ} → q ≡ true → length b < 4 * count → CheckIs s order b (Refused 29 (record { 0 = 0 })) b
+    no-room-left {b} e l = room-refused s order b (r .log) (r .passes) (sym right-is ∙ e) (omega (arith, r .number, l))
 
-    pub checked : Bytes order → q ≡ true → 4 * count ≤ length b → length nodes ≡ 256 → (f : Found) (b′ : List ℕ) → GraphIs s nodes rank count b f b′ → CheckIs s order b (saidOf f) b′
-    checked by′ e l w f b′ g =
-        let c = number-is s keys next head vals rows by r a nodes count n in
-        let m = few s keys next head vals rows by r a nodes count n in
+    -- what the graph found, as the checker says it
+    pub checked : Bytes order → q ≡ true → {b : List ℕ} → 4 * count ≤ length b → {f x : Found} {b′ : List ℕ} → GraphIs s nodes rank count b f b′ → f ≡ x → CheckIs s order b (saidOf x) b′
+    checked by e {b} l {f} {x} {b′} g h =
         let t : rightOrder (r .log) order ≡ true = sym right-is ∙ e in
-        let vo = passes-order (r .log) (well s keys next head vals rows by r a nodes count n) order by′ t in
-        let k′ = ranked (r .log) (vsOf (fieldsOf order)) nodes rank count (omega arith) (nodes-are s keys next head vals rows by r a nodes count n) (k .ranks e) in
-        answered-is s order b (verdict (r .log) (vsOf (fieldsOf order))) f b′
-        (judged-answer s order b (r .log) (r .passes) t (omega (arith, c, l)))
-        (g .answered (r .log) (vsOf (fieldsOf order)) (r .passes) vo k′)
-
-    -- as the checker says it
-    pub checked-as : Bytes order → q ≡ true → 4 * count ≤ length b → length nodes ≡ 256 → (f : Found) (b′ : List ℕ) → GraphIs s nodes rank count b f b′ → (x : Found) → f ≡ x → CheckIs s order b (saidOf x) b′
-    checked-as by′ e l w f b′ g x h = subst (λ (y : Found). CheckIs s order b (saidOf y) b′) h (checked by′ e l w f b′ g)
+        let vo = passes-order (r .log) (r .well) order by t in
+        let k′ = ranked (r .log) (vsOf (fieldsOf order)) nodes rank count (r .within) (r .first) (k .ranks e) in
+        let j = judged-answer s order b (r .log) (r .passes) t (omega (arith, r .number, l)) in
+        let a = g .answered (r .log) (vsOf (fieldsOf order)) (r .passes) vo k′ in
+        subst (λ (y : Found). CheckIs s order b (saidOf y) b′) h (answered-is s order b (verdict (r .log) (vsOf (fieldsOf order))) f b′ j a)

@@ -1,4 +1,3 @@
-pub mod ReadLaws
 pub mod OrderedLaws
 pub mod RankedLaws
 pub mod GraphLaws

@@ -1,23 +1,15 @@
--- A log that was read: none of 21 to 27 applies, and the map has its events.
+-- What the verdict on the graph of a log that was read answers and leaves.
 -- Assumes nothing.
 use Prim.Native.Nat.{ℕ}
 use mathlib.Core.Path.{_≡_}
-use mathlib.Core.List.{List, reverse}
+use mathlib.Core.List.{List}
 use Rattle.log_format.specs.Events.{Event}
 use Rattle.history_rules.specs.History.{passed, historyOf}
-use Rattle.history_rules.specs.Held.{Holds}
-use Rattle.index.specs.Index.{Table, lookup}
 use Rattle.serial_theory.specs.Edges.{VersionOrder}
 use Rattle.serial_theory.specs.Judged.{verdict}
 use Rattle.edges.specs.Ranked.{Ranked}
 use Rattle.graph.specs.Answer.{Answered}
 use Rattle.graph.specs.declared.Found.{Found}
-
-pub record ReadLog (s keys next head vals : List ℕ) (rows : ℕ) : Type 0 where
-  pub log : List Event
-  pub passes : historyOf s ≡ passed log
-  pub table : Table keys next head vals rows
-  pub holds : Holds (reverse log) (lookup keys vals rows)
 
 -- the graph's answer and what it leaves in the buffer: for a log that passes, an order of its versions and their ranks, the verdict's
 pub record GraphIs (s nodes rank : List ℕ) (count : ℕ) (b : List ℕ) (r : Found) (b′ : List ℕ) : Type 0 where

@@ -3,7 +3,7 @@
 use checker_rules::Checked;
 use checker_rules::Ordered;
 use graph::Found;
-use history::Verdict;
+use history::Judged;
 use log_format::Place;
 use order_rules::Written;
 ghost use mathlib.Core.Path.{_≡_};
@@ -12,26 +12,22 @@ ghost use lib.ListN.{length};
 ghost use Rattle.checker_rules.specs.Answers.{CheckIs, PanelIs, Small, returned};
 ghost use Rattle.checker_rules.specs.Orders.{OrderIs};
 ghost use Rattle.drawing.specs.Drawing.{Tables};
-ghost use Rattle.checker.specs.Reads.{ReadLog, GraphIs};
+ghost use Rattle.history.specs.Reads.{ReadLog};
+ghost use Rattle.checker.specs.Reads.{GraphIs};
+
+// A rank for each committed transaction and item, and a byte for each two committed transactions.
+const RANKS: usize = numbers::MAX_COMMITTED * numbers::ITEMS;
+
+const CELLS: usize = numbers::MAX_COMMITTED * numbers::MAX_COMMITTED;
 
 // ---- the timestamp order
 
 // Writes the timestamp order of a log that was read.
-fn order_read(
-    log: &[u8],
-    keys: &[u64],
-    next: &[usize],
-    head: &[usize],
-    vals: &[u64],
-    rows: usize,
-    out: &mut [u8],
-) -> Ordered
-    requires { ⌜ ReadLog (now log) (now keys) (now next) (now head) (now vals) rows ⌝ }
+fn order_read(log: &[u8], map: &[u64], nodes: &[u32], count: usize, out: &mut [u8]) -> Ordered
+    requires { ⌜ ReadLog (now log) (now map) (now nodes) count ⌝ }
     ensures { λ r. ⌜ OrderIs (now (log .entry)) (now (out .entry)) r (now (out .exit)) ⌝ }
 {
-    let mut nodes = [0u32; 256];
-    let count = history::gather(log, &mut nodes);
-    let w = order_writer::write_timestamp_order(keys, next, head, vals, rows, &nodes, count, out);
+    let w = order_writer::write_timestamp_order(map, nodes, count, out);
     match w {
         Written::Bytes(n) => Ordered::Bytes(n),
         Written::NoRoom => Ordered::Refused(29, Place(0)),
@@ -43,16 +39,12 @@ fn order_read(
 pub fn write_order(log: &[u8], out: &mut [u8]) -> Ordered
     ensures { λ r. ⌜ OrderIs (now (log .entry)) (now (out .entry)) r (now (out .exit)) ⌝ }
 {
-    let mut keys = [0u64; 9362];
-    let mut next = [0usize; 9362];
-    let mut head = [0usize; 8191];
-    let mut vals = [0u64; 9362];
-    let j = history::judge(log, &mut keys, &mut next, &mut head, &mut vals);
-    let v = j.verdict;
-    let rows = j.rows;
-    match v {
-        Verdict::Refused(code, place) => Ordered::Refused(code, place),
-        Verdict::Passed(_) => order_read(log, &keys, &next, &head, &vals, rows, out),
+    let mut map = [0u64; index::WORDS];
+    let mut nodes = [0u32; numbers::MAX_COMMITTED];
+    let j = history::read_history(log, &mut map, &mut nodes);
+    match j {
+        Judged::Refused(code, place) => Ordered::Refused(code, place),
+        Judged::Passed(count) => order_read(log, &map, &nodes, count, out),
     }
 }
 
@@ -63,10 +55,10 @@ fn check_graph(log: &[u8], nodes: &[u32], count: usize, rank: &[u16], answer: &m
     requires { ⌜ (Tables (now nodes) (now rank) count) × (4 * count ≤ length (now answer)) ⌝ }
     ensures { λ r. ⌜ GraphIs (now (log .entry)) (now (nodes .entry)) (now (rank .entry)) count (now (answer .entry)) r (now (answer .exit)) ⌝ }
 {
-    let mut mat = [0u8; 65536];
+    let mut mat = [0u8; CELLS];
     drawing::draw_log(log, nodes, count, rank, &mut mat);
-    let mut deg = [0u16; 256];
-    let mut path = [0u16; 256];
+    let mut deg = [0u16; numbers::MAX_COMMITTED];
+    let mut path = [0u16; numbers::MAX_COMMITTED];
     graph::judge_graph(&mat, count, nodes, &mut deg, &mut path, answer)
 }
 
@@ -74,34 +66,20 @@ fn check_graph(log: &[u8], nodes: &[u32], count: usize, rank: &[u16], answer: &m
 fn check_read(
     log: &[u8],
     order: &[u8],
-    keys: &[u64],
-    next: &[usize],
-    head: &[usize],
-    vals: &[u64],
-    rows: usize,
+    map: &[u64],
+    nodes: &[u32],
+    count: usize,
     answer: &mut [u8],
 ) -> Checked
-    requires { ⌜ ReadLog (now log) (now keys) (now next) (now head) (now vals) rows ⌝ }
+    requires { ⌜ ReadLog (now log) (now map) (now nodes) count ⌝ }
     ensures { λ r. ⌜ CheckIs (now (log .entry)) (now (order .entry)) (now (answer .entry)) r (now (answer .exit)) ⌝ }
 {
-    let mut nodes = [0u32; 256];
-    let count = history::gather(log, &mut nodes);
-    let mut rank = [0u16; 16384];
-    if version_order::ranks(
-        order,
-        keys,
-        next,
-        head,
-        vals,
-        rows,
-        &nodes,
-        count,
-        &mut rank,
-    ) {
+    let mut rank = [0u16; RANKS];
+    if version_order::ranks(order, map, nodes, count, &mut rank) {
         if answer.len() < 4 * count {
             return Checked::Refused(29, Place(0));
         }
-        let f = check_graph(log, &nodes, count, &rank, answer);
+        let f = check_graph(log, nodes, count, &rank, answer);
         match f {
             Found::Accepted(n) => Checked::Accepted(n),
             Found::Cycle(n) => Checked::Cycle(n),
@@ -116,16 +94,12 @@ fn check_read(
 pub fn check(log: &[u8], order: &[u8], answer: &mut [u8]) -> Checked
     ensures { λ r. ⌜ CheckIs (now (log .entry)) (now (order .entry)) (now (answer .entry)) r (now (answer .exit)) ⌝ }
 {
-    let mut keys = [0u64; 9362];
-    let mut next = [0usize; 9362];
-    let mut head = [0usize; 8191];
-    let mut vals = [0u64; 9362];
-    let j = history::judge(log, &mut keys, &mut next, &mut head, &mut vals);
-    let v = j.verdict;
-    let rows = j.rows;
-    match v {
-        Verdict::Refused(code, place) => Checked::Refused(code, place),
-        Verdict::Passed(_) => check_read(log, order, &keys, &next, &head, &vals, rows, answer),
+    let mut map = [0u64; index::WORDS];
+    let mut nodes = [0u32; numbers::MAX_COMMITTED];
+    let j = history::read_history(log, &mut map, &mut nodes);
+    match j {
+        Judged::Refused(code, place) => Checked::Refused(code, place),
+        Judged::Passed(count) => check_read(log, order, &map, &nodes, count, answer),
     }
 }
 

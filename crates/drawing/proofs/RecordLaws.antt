@@ -11,6 +11,7 @@ use lib.Dec.{eqb, ltb}
 use lib.ListN.{getD, take}
 use borrow.Author.Tests.{eqb-true, eqb-false, ltb-true, ltb-false}
 use denote.Enum.Declared.{tagOf}
+use Rattle.numbers.specs.Numbers.{maxItem}
 use Rattle.lists.specs.Member.{_∈_}
 use Rattle.log_format.proofs.Record as records
 use Rattle.log_format.specs.Events.{Event, reads, eventOf}
@@ -27,7 +28,8 @@ use Rattle.edges.specs.Drawn.{Drew}
 use Rattle.edges.specs.Ranked.{Ranked, stampAt, EdgesOf}
 use Rattle.edges.proofs.RankedLaws.{node-done, stamp-node, stamp-past}
 use Rattle.edges.proofs.DrawingLaws.{unfinished-read, edges-skip, edges-read}
-use Rattle.drawing.specs.Drawing.{Number, DrewEvent}
+use Rattle.sorted.specs.Sorted.{Located}
+use Rattle.drawing.specs.Drawing.{DrewEvent}
 
 -- the record's tag
 abbrev tag : Record → ℕ
@@ -54,36 +56,36 @@ module _ (nodes rank : List ℕ) (count : ℕ) (m : List ℕ) where
 
   module _ (k x j v : ℕ) where
     -- a read whose reader is none of the nodes
-    pub unfinished-drawn : (n : ℕ) → Number nodes count k n → count ≤ n → DrewEvent nodes rank count (reads k x j v) m m
+    pub unfinished-drawn : (n : ℕ) → Located nodes count k n → count ≤ n → DrewEvent nodes rank count (reads k x j v) m m
     unfinished-drawn n u l = record {
       size = refl;
-      edges = λ log vs part g vo rk i h. edges-skip log vs nodes count (reads k x j v) part m (unfinished-read log vs k x j v (not-done log vs nodes rank count rk k (u .none l))) h;
+      edges = λ log vs part g vo rk i h. edges-skip log vs nodes count (reads k x j v) part m (unfinished-read log vs k x j v (not-done log vs nodes rank count rk k (u .none (let w = u .within in omega arith)))) h;
     }
 
     -- a log that passes has no read of another item
-    pub no-item-drawn : 64 ≤ x → DrewEvent nodes rank count (reads k x j v) m m
+    pub no-item-drawn : maxItem < x → DrewEvent nodes rank count (reads k x j v) m m
     no-item-drawn l = record {
       size = refl;
       edges = λ log vs part g vo rk i h. absurd (let z = read-item log g k x j v (got-is k x j v log .1 i) in omega arith);
     }
 
-    module _ (n i : ℕ) (few : count ≤ mostNodes) (u : Number nodes count k n) (l : n < count) (w : Number nodes count j i) where
+    module _ (n i : ℕ) (few : count ≤ mostNodes) (u : Located nodes count k n) (l : n < count) (w : Located nodes count j i) where
       -- the number stands for the version that is read
       source : (log : List Event) (vs : ℕ → List ℕ) → Regular log → Ranked log vs nodes rank count → reads k x j v ∈ log → stampAt nodes count i ≡ j
       source log vs g rk o = go (ltb i count) refl (eqb j 0) refl
         where
           go : (b : Bool) → ltb i count ≡ b → (c : Bool) → eqb j 0 ≡ c → stampAt nodes count i ≡ j
-          go true e c f = let q = ltb-true i count e in stamp-node log vs nodes rank count rk i q ∙ w .is q
+          go true e c f = let q = ltb-true i count e in stamp-node log vs nodes rank count rk i q ∙ w .here q
           go false e true f = stamp-past log vs nodes rank count rk i (ltb-false i count e) ∙ sym (eqb-true j 0 f)
           go false e false f =
-              let d : Done k log = subst (λ (t : ℕ). Done t log) (u .is l) (node-done log vs nodes rank count rk n l) in
-              absurd (not-done log vs nodes rank count rk j (w .none (ltb-false i count e)) (g .from k x j v d (got-is k x j v log .1 o) (eqb-false j 0 f)))
+              let d : Done k log = subst (λ (t : ℕ). Done t log) (u .here l) (node-done log vs nodes rank count rk n l) in
+              absurd (not-done log vs nodes rank count rk j (w .none (let q = w .within in let h = ltb-false i count e in omega arith)) (g .from k x j v d (got-is k x j v log .1 o) (eqb-false j 0 f)))
 
       -- a read whose reader is node n
       pub read-drawn : (m′ : List ℕ) → Drew rank count n x i m m′ → DrewEvent nodes rank count (reads k x j v) m m′
       read-drawn m′ d = record {
         size = d .size;
-        edges = λ log vs part g vo rk o h. of-names log vs part (u .is l) (source log vs g rk o) g vo rk o h;
+        edges = λ log vs part g vo rk o h. of-names log vs part (u .here l) (source log vs g rk o) g vo rk o h;
       }
         where
           of-names : (log : List Event) (vs : ℕ → List ℕ) (part : List Event) {a b : ℕ} → getD nodes n 0 ≡ a → stampAt nodes count i ≡ b

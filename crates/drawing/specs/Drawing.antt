@@ -1,9 +1,10 @@
 -- What drawing a log's reads takes and leaves: nodes, ranks, and a matrix with the log's edges.
 -- Assumes nothing.
-use Prim.Native.Nat.{ℕ, _*_, _≤_, _<_}
+use Prim.Native.Nat.{ℕ, _*_, _≤_}
 use mathlib.Core.Path.{_≡_}
 use mathlib.Core.List.{List, _∷_}
-use lib.ListN.{length, getD, take, replicate}
+use lib.ListN.{length, take, replicate}
+use Rattle.numbers.specs.Numbers.{items}
 use Rattle.lists.specs.Member.{_∈_, Rising}
 use Rattle.log_format.specs.Events.{Event}
 use Rattle.history_rules.specs.History.{passed, historyOf}
@@ -11,18 +12,12 @@ use Rattle.serial_theory.specs.Edges.{Regular, VersionOrder}
 use Rattle.edges.specs.Matrix.{mostNodes, matrixSize}
 use Rattle.edges.specs.Ranked.{Ranked, EdgesOf}
 
--- r is the number of t among the first `count` nodes, or `count` where t is none of them
-pub record Number (nodes : List ℕ) (count t r : ℕ) : Type 0 where
-  pub most : r ≤ count
-  pub is : r < count → getD nodes r 0 ≡ t
-  pub none : count ≤ r → ¬ (t ∈ take count nodes)
-
 -- at most 256 nodes, rising, and 64 ranks for each
 pub record Tables (nodes rank : List ℕ) (count : ℕ) : Type 0 where
   pub few : count ≤ mostNodes
   pub within : count ≤ length nodes
   pub rising : Rising 0 (take count nodes)
-  pub ranks : count * 64 ≤ length rank
+  pub ranks : count * items ≤ length rank
 
 -- an event of a log drawn: where m has the edges of a part of the log, m′ has those of the event and the part
 pub record DrewEvent (nodes rank : List ℕ) (count : ℕ) (e : Event) (m m′ : List ℕ) : Type 0 where

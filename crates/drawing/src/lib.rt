@@ -1,29 +1,16 @@
 // All reads of a log drawn: one walk over its fields leaves the edges between its committed transactions in a matrix of bytes that the caller lends. `nodes`
 // has their stamps, rising; `rank` the ranks of their versions, 64 a node.
 ghost use Prim.Native.Nat.{_≤_};
-ghost use lib.ListN.{length, take};
-ghost use Rattle.lists.specs.Member.{Rising};
+ghost use lib.ListN.{length};
 ghost use Rattle.log_format.specs.Events.{eventOf};
 ghost use Rattle.edges.specs.Matrix.{matrixSize};
-ghost use Rattle.drawing.specs.Drawing.{Number, Tables, DrewEvent, Drawable, DrewAll};
+ghost use Rattle.drawing.specs.Drawing.{Tables, DrewEvent, Drawable, DrewAll};
 use log_format::Decoded;
 use log_format::Place;
 use log_format::Record;
 
-// The items are those below it.
-const ITEMS: u8 = 64;
-
-// The stamp's number among the first `count` nodes, or `count` where it is none of them.
-fn number_of(nodes: &[u32], count: usize, stamp: u32) -> usize
-    requires { ⌜ (count ≤ length (now nodes)) × Rising 0 (take count (now nodes)) ⌝ }
-    ensures { λ r. ⌜ Number (now (nodes .entry)) count stamp r ⌝ }
-{
-    let p = version_order::node_of(nodes, count, stamp);
-    if p == 0 {
-        return count;
-    }
-    p - 1
-}
+// The largest item, as a record has it.
+const MAX_ITEM: u8 = numbers::MAX_ITEM as u8;
 
 // Draws the edges of a record: those of a read by a committed transaction; none for any other.
 fn draw_record(mat: &mut [u8], nodes: &[u32], count: usize, rank: &[u16], r: Record)
@@ -39,14 +26,14 @@ fn draw_record(mat: &mut [u8], nodes: &[u32], count: usize, rank: &[u16], r: Rec
     else {
         return;
     };
-    let k = number_of(nodes, count, stamp.0);
+    let k = sorted::find(nodes, count, stamp.0);
     if count <= k {
         return;
     }
-    if ITEMS <= item {
+    if MAX_ITEM < item {
         return;
     }
-    let j = number_of(nodes, count, version.0);
+    let j = sorted::find(nodes, count, version.0);
     edges::draw_read(mat, count, rank, k, j, item as usize);
 }
 

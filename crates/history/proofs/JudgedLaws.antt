@@ -68,3 +68,11 @@ module _ {s m : List ℕ} where
           within = omega arith;
           rising = subst (Rising 0) (sym (n .first log q)) (committed-rising log);
         }
+
+-- what was answered, where it is known which
+module _ (s m nodes : List ℕ) {r : Judged} (i : ReadIs s m nodes r) where
+  pub was-refused : {c : ℕ} {p : Place} → r ≡ Refused c p → historyOf s ≡ refused c (p .0)
+  was-refused e = subst (ReadIs s m nodes) e i
+
+  pub was-read : {count : ℕ} → r ≡ Passed count → ReadLog s m nodes count
+  was-read e = subst (ReadIs s m nodes) e i
