@@ -1,0 +1,1 @@
+"""The checks of `tools/lint`, a module for each subject."""
