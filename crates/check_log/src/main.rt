@@ -1,5 +1,7 @@
 // Judges the log and the version order in the files that its two arguments name, and prints one line: `accepted` or `cycle` and the
 // stamps, each after a space, or `refused`, code and number. A file that is not named, not opened or not read counts as empty.
+#![tactic(auto)]
+
 ghost use Rattle.io.specs.Counts.{IsPrefixLen};
 
 use libc::STDOUT_FILENO;

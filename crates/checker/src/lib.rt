@@ -1,5 +1,7 @@
 // The checker: one top function owns the working memory, walks the log, then judges the version order, draws the edges and gives the
 // verdict; and the call that writes a log's timestamp order.
+#![tactic(auto)]
+
 ghost use Rattle.std.specs.Prelude.{◌≡◌, ◌*◌, ◌≤◌, length};
 ghost use Rattle.checker_rules.specs.Answers.{CheckIs, PanelIs, Small, returned};
 ghost use Rattle.checker_rules.specs.Orders.{OrderIs};

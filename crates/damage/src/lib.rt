@@ -1,4 +1,6 @@
 // The damage pass over the versions' columns and the initial marks: one look at each number, and no early way out of a loop.
+#![tactic(auto)]
+
 ghost use Rattle.std.specs.Prelude.{◌≤◌, ◌≡◌, eqb, take, drop};
 ghost use Rattle.scheduler_rules.specs.Model.{max_versions};
 ghost use Rattle.open_table.specs.Intact.{zeros};

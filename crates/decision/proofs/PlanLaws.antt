@@ -87,12 +87,12 @@ module _ (room : ℕ) (op : Op) (m : Model) (d : Deciding room op m) where
         place = place;
       }
 
-  module _ (among : op.stamp.0 ∈ m.live) (notBegin : op.kind ≢ 1) where
+  module _ (among : op.stamp.0 ∈ m.live) (not_begin : op.kind ≢ 1) where
     not3 : ¬ Row3 op m
-    not3 r = notBegin r.0
+    not3 r = not_begin r.0
 
     not4 : ¬ Row4 op m
-    not4 r = notBegin r.0
+    not4 r = not_begin r.0
 
     not5 : ¬ Row5 op m
     not5 r = r.1 among

@@ -1,4 +1,6 @@
 // What a call decides before it changes anything: on the small part of the state by value and on lent columns.
+#![tactic(auto)]
+
 ghost use Rattle.std.specs.Prelude.{◌≡◌, ◌≤◌, ◌-◌, length, take, get_or};
 ghost use Rattle.scheduler_rules.specs.Model.{max_item};
 ghost use Rattle.open_table.specs.Open.{stamps_of};
@@ -13,7 +15,7 @@ use scheduler_rules::{Op, Reply};
 use version_columns::{Chosen, Versions};
 
 // The small part of a state: the last begun stamp, the log bytes used, the open transactions.
-#[derive(Drop)]
+#[derive(Clone, Copy)]
 pub struct Core {
     pub last: Stamp,
     pub used: Place,
@@ -21,7 +23,7 @@ pub struct Core {
 }
 
 // The record that a call is to write, and where the version that it reads or writes stands.
-#[derive(Drop)]
+#[derive(Clone, Copy)]
 pub enum Due {
     Nothing,
     Begin,
@@ -33,7 +35,7 @@ pub enum Due {
 }
 
 // What a call answers, and what it is to do.
-#[derive(Drop)]
+#[derive(Clone, Copy)]
 pub struct Plan {
     pub reply: Reply,
     pub due: Due,

@@ -1,5 +1,7 @@
 // All reads of a log drawn: one walk over its fields leaves the edges between its committed transactions in a matrix of bytes that the caller lends. `nodes`
 // has their stamps, rising; `rank` the ranks of their versions, 64 a node.
+#![tactic(auto)]
+
 ghost use Rattle.std.specs.Prelude.{◌≤◌, length};
 ghost use Rattle.log_format.specs.Events.{event_of};
 ghost use Rattle.edges.specs.Matrix.{matrix_size};

@@ -1,6 +1,8 @@
 // The edges between committed transactions as a matrix of bytes that the caller lends: one read of the log draws its edges. A node is a
 // committed transaction's number, counted by rising stamps. `rank` has 64 numbers a node, one an item: one more than the place of the
 // node's version among the item's versions, oldest first, or 0 where it has none.
+#![tactic(auto)]
+
 ghost use Rattle.std.specs.Prelude.{◌≡◌, ◌≤◌, ◌<◌, length};
 ghost use Rattle.edges.specs.Matrix.{most_nodes, matrix_size, with_edge};
 ghost use Rattle.edges.specs.Drawn.{Room, Drew};

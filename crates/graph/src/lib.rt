@@ -1,6 +1,8 @@
 // The verdict on a graph that stands in a matrix of bytes: nodes are taken, smallest first; if some are left, a walk finds a cycle among them. The
 // stamps taken, or those of the cycle, go into the answer.
 // A node is a number below `count`; `nodes` has the stamps, rising, so that the smaller node has the smaller stamp.
+#![tactic(auto)]
+
 ghost use Rattle.std.specs.Prelude.{◌≡◌, cond, ◌+◌, ◌-◌, ◌*◌, ◌≤◌, ◌<◌, ltb, length};
 ghost use Rattle.std.proofs.Math.Seq.{slice};
 ghost use Rattle.log_format.specs.Bytes.{stamp_bytes, splice};
@@ -12,7 +14,7 @@ use taking::take_all;
 use walking::{find_cycle, wide};
 
 // What the graph answers, with the number of stamps written: all nodes were taken, or there is a cycle.
-#[derive(Drop)]
+#[derive(Clone, Copy)]
 pub enum Found {
     Accepted(usize),
     Cycle(usize),

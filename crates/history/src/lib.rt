@@ -2,6 +2,8 @@
 // the first read from a transaction that never commits; a third gathers the committed stamps. Each field costs a few lookups in the map, so the whole is
 // near-linear in the log's bytes; a log whose stamps are chosen to share one bucket of the map costs the square of its fields, at most 9,361.
 // Working memory is the caller's: words, lent, and left with the map of a log that passes.
+#![tactic(auto)]
+
 ghost use Rattle.std.specs.Prelude.{◌≡◌, ◌+◌, ◌≤◌, length, take};
 ghost use Rattle.lists.specs.Member.{Rising};
 ghost use Rattle.log_format.specs.Whole.{max_log};
@@ -17,7 +19,7 @@ ghost use Rattle.history.specs.Reads.{ReadIs};
 use log_format::{Decoded, Place, Record};
 
 // A log judged as far as codes 21 to 27 go: it passes, and so many transactions committed; or a code, and the place beside it.
-#[derive(Drop)]
+#[derive(Clone, Copy)]
 pub enum Judged {
     Passed(usize),
     Refused(u32, Place),

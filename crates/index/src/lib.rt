@@ -2,6 +2,8 @@
 // through its rows, the newest first. The newest row of a key has the key's number, and a key without a row has 0. Only this crate knows the layout:
 // word 0 has how many rows there are, a word for each bucket follows, then three words a row (its key, the row before it in its bucket, its number).
 // A row is told by one more than its place, so that 0 is none. A slice of zeros is a map without rows.
+#![tactic(auto)]
+
 ghost use Rattle.std.specs.Prelude.{◌≡◌, ◌<◌};
 ghost use Rattle.index.specs.Index.{buckets, bucket_of, table_of, Table, Room, Pushed};
 

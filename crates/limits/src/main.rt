@@ -1,6 +1,8 @@
 // The scheduler at its limits: 32 and 33 open, 1,024 and 1,025 versions and room after an abort, a full log refused by each kind of
 // record, a late write with 7 and with 8 bytes left, item 63 and 64, buffers of 0 to 4 bytes. The expected output is written by hand
 // from document 01.
+#![tactic(auto)]
+
 use libc::STDOUT_FILENO;
 use log_format::Stamp;
 use scheduler::Called;

@@ -1,8 +1,10 @@
 // Operation lines and reply lines: what reading a line answers. The lines are in specs/; the crate has no function.
+#![tactic(auto)]
+
 use scheduler_rules::Op;
 
 // What a line is: an operation, or a bad line.
-#[derive(Drop)]
+#[derive(Clone, Copy)]
 pub enum Parsed {
     Line(Op),
     Bad,
@@ -14,7 +16,7 @@ impl Parsed {
 }
 
 // A decimal at a place of a line: its number and the place after it, or none.
-#[derive(Drop)]
+#[derive(Clone, Copy)]
 pub enum Number {
     Is(u32, usize),
     Missing,

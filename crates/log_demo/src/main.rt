@@ -1,5 +1,7 @@
 // Writes a log with one record of each kind, reads it back and prints what was read; then what a bad cause, a short buffer, a cut
 // field and a damaged header answer. The expected output is written by hand from document 01.
+#![tactic(auto)]
+
 use libc::STDOUT_FILENO;
 use log_format::{Added, Decoded, Form, Place, Record, Stamp};
 

@@ -1,4 +1,6 @@
 // The page's numbers, each once: every other crate takes them from here, and so do the definitions, from specs/.
+#![tactic(auto)]
+
 ghost use Rattle.std.specs.Prelude.{◌≡◌};
 ghost use Rattle.numbers.specs.Numbers.{page_numbers};
 
@@ -20,7 +22,7 @@ pub const MAX_LOG: usize = 65536;
 pub const MAX_COMMITTED: usize = 256;
 
 // The numbers above, side by side.
-#[derive(Drop)]
+#[derive(Clone, Copy)]
 pub struct Page {
     pub items: usize,
     pub largest: u32,

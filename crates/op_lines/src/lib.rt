@@ -1,4 +1,6 @@
 // Reading operation lines: what a line of bytes asks.
+#![tactic(auto)]
+
 ghost use Rattle.std.specs.Prelude.{◌≡◌, ◌≤◌, length, drop};
 ghost use Rattle.scheduler_rules.specs.Run.{read, write};
 ghost use Rattle.line_format.specs.Decimals.{is_digit, more_digits, decimal_at};

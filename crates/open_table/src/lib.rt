@@ -1,4 +1,6 @@
 // The open transactions: a fixed table of 32 stamps with its count.
+#![tactic(auto)]
+
 ghost use Rattle.std.specs.Prelude.{◌<◌, ◌≤◌, min, ◌≡◌, [], ◌∷◌, ◌++◌, map, eqb, drop};
 ghost use Rattle.scheduler_rules.specs.Model.{max_open, close};
 ghost use Rattle.open_table.specs.Open.{number, stamps_of, table_of, Padded, holds};
@@ -6,7 +8,7 @@ ghost use Rattle.open_table.specs.Intact.{in_place, rises, zeros, is_intact};
 
 use log_format::Stamp;
 
-#[derive(Drop)]
+#[derive(Clone, Copy)]
 pub struct OpenTable {
     pub stamps: [Stamp; 32],
     pub count: usize,

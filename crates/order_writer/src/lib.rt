@@ -1,4 +1,6 @@
 // Writing the timestamp order of a log into a lent buffer, over the map that holds the log's events and the committed stamps, rising.
+#![tactic(auto)]
+
 ghost use Rattle.std.specs.Prelude.{◌≡◌, ◌∷◌, [], ◌++◌, ◌+◌, ◌*◌, ◌≤◌, ◌<◌, length, take};
 ghost use Rattle.log_format.specs.Bytes.{stamp_bytes, splice};
 ghost use Rattle.history_rules.specs.WellFormed.{most_item, most_committed};

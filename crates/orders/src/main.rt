@@ -1,6 +1,8 @@
 // Puts logs to the order call, for the comparison with the second program. Standard input has the cases one after the other: the log's
 // length and the buffer's, four bytes each, high byte first, and the log's bytes. For each, one line: code, number and the hash of the
 // buffer that the call leaves; before it, byte i of the buffer is 7 i + 3, mod 256.
+#![tactic(auto)]
+
 use checker_rules::Ordered;
 use libc::STDIN_FILENO;
 
@@ -25,7 +27,7 @@ fn put(log: &[u8], out: &mut [u8]) {
 }
 
 // The next number of the input, or its end.
-#[derive(Drop)]
+#[derive(Clone, Copy)]
 pub enum Next {
     Is(usize),
     End,

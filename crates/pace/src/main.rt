@@ -1,6 +1,8 @@
 // A workload for measuring calls, the same as bench/plain.rs: a begin, a read, a write, a read and an abort in turn, over no version
 // where the number of calls ends in 0, else over 1,000. Standard input has the number of calls; what is written is a sum over the
 // replies, by which the two programs are compared.
+#![tactic(auto)]
+
 use libc::{STDIN_FILENO, STDOUT_FILENO};
 use log_format::Stamp;
 use scheduler::Called;

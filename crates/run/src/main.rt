@@ -1,27 +1,29 @@
 // Runs operation lines from standard input over a log of 65,536 bytes, and writes the replies, then `log` and the bytes used, to
 // standard output. With two arguments it also writes the log to the file that the first one names, and, where the log has one, its
 // timestamp order to that of the second.
+#![tactic(auto)]
+
 use checker_rules::Ordered;
 use libc::{STDIN_FILENO, STDOUT_FILENO};
 use line_format::Parsed;
 use scheduler_rules::{Op, Reply};
 
 // Where the next byte stands in the chunk that was read last, and how many it has.
-#[derive(Drop)]
+#[derive(Clone, Copy)]
 pub struct Cursor {
     pub at: usize,
     pub have: usize,
 }
 
 // The next byte of the input, or its end.
-#[derive(Drop)]
+#[derive(Clone, Copy)]
 pub enum Byte {
     Is(u8, Cursor),
     End,
 }
 
 // The length of the next line, or the end of the input. Of a line over 63 bytes the first 64 are kept, which no operation is.
-#[derive(Drop)]
+#[derive(Clone, Copy)]
 pub enum Taken {
     Line(usize, Cursor),
     End,

@@ -1,8 +1,10 @@
 // What the scheduler is asked and what it answers. The rules are in specs/; the crate has no function.
+#![tactic(auto)]
+
 use log_format::Stamp;
 
 // An operation: kind (1 begin, 2 read, 3 write, 4 commit, 5 abort), stamp, item, value. A number the kind has no use for is 0.
-#[derive(Drop)]
+#[derive(Clone, Copy)]
 pub struct Op {
     pub kind: u32,
     pub stamp: Stamp,
@@ -16,7 +18,7 @@ impl Op {
 }
 
 // A reply: the code, then what the page's table says of the code.
-#[derive(Drop)]
+#[derive(Clone, Copy)]
 pub struct Reply {
     pub code: u32,
     pub stamp: Stamp,

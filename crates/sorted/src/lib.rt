@@ -1,4 +1,6 @@
 // Stamps that rise, in the first places of a slice that the caller lends, with their count.
+#![tactic(auto)]
+
 ghost use Rattle.std.specs.Prelude.{◌≡◌, ◌≤◌, ◌<◌, length, take};
 ghost use Rattle.lists.specs.Member.{Rising};
 ghost use Rattle.sorted.specs.Sorted.{Stands, is_at, Located, Shifted, Added};

@@ -4,6 +4,8 @@
 // the other: 32 open stamps, 64 initial marks, and the 1,024 items, stamps, values and marks of the versions; those without a setting
 // are 0. For each case, one line: the reply's three numbers, last begun, bytes used, open count and version count of the state after
 // the call, the hash of its tables, and the hash of the buffer.
+#![tactic(auto)]
+
 use decision::Core;
 use libc::STDIN_FILENO;
 use log_format::{Place, Stamp};
@@ -13,7 +15,7 @@ use scheduler_rules::Op;
 use version_columns::Versions;
 
 // The state's numbers that stand in no table.
-#[derive(Drop)]
+#[derive(Clone, Copy)]
 pub struct Counts {
     pub last: u32,
     pub used: usize,

@@ -1,5 +1,7 @@
 // Taking the nodes of a graph that stands in a matrix of bytes, smallest first, by how many edges lead to each from nodes left.
 // A node is a number below `count`.
+#![tactic(auto)]
+
 ghost use Rattle.std.specs.Prelude.{◌≡◌, ◌-◌, ◌≤◌, ◌<◌, eqb, length, get_or};
 ghost use Rattle.edges.specs.Matrix.{most_nodes, matrix_size, edge_at};
 ghost use Rattle.taking.specs.Nodes.{bit, indices, tally, FirstOf};

@@ -1,4 +1,6 @@
 // What the programs of the comparison share: the buffer before a call, the hash by which they tell it afterwards, and numbers printed.
+#![tactic(auto)]
+
 ghost use Rattle.std.specs.Prelude.{◌<◌};
 
 use libc::STDOUT_FILENO;

@@ -1,6 +1,8 @@
 // What a map from key to number says of the transactions of a log: how far each has come and what it wrote; the code of a record after those noted, 23 to
 // 25, and a record noted. Each asks the map at most four times and adds at most one row, so a log costs as many lookups as it has fields: near-linear in
 // its bytes, unless its stamps are chosen so that their keys share one bucket, where a lookup walks all rows.
+#![tactic(auto)]
+
 ghost use Rattle.std.specs.Prelude.{◌≡◌};
 ghost use Rattle.log_format.specs.Events.{begins, reads, writes, commits, event_of};
 ghost use Rattle.history_rules.specs.Faults.{idle, unfit, unread};

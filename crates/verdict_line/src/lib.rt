@@ -1,4 +1,6 @@
 // The line that tells the verdict on a log and a version order.
+#![tactic(auto)]
+
 ghost use Rattle.std.specs.Prelude.{◌+◌, ◌*◌, ◌≤◌, ◌++◌, length};
 ghost use Rattle.line_format.specs.Decimals.{digits};
 ghost use Rattle.reply_lines.specs.Written.{Put, Written};

@@ -1,5 +1,7 @@
 // The checker at its limits: logs of 65,536 and 65,537 bytes, 256 and 257 committed, an answer one byte too short, a cycle of 200
 // transactions, dense graphs of 256. The expected output is written by hand from document 01.
+#![tactic(auto)]
+
 use libc::STDOUT_FILENO;
 use log_format::{Added, Place, Record, Stamp};
 
@@ -81,7 +83,7 @@ fn hand_on(log: &mut [u8], used: usize, k: u32) -> usize {
 }
 
 // What each of many transactions does in turn.
-#[derive(Drop)]
+#[derive(Clone, Copy)]
 pub enum Turn {
     Begins,
     HandsOn,

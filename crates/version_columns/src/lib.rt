@@ -1,4 +1,6 @@
 // The versions held, by item, then stamp, as four columns of numbers with their count: a column can be lent and changed in place.
+#![tactic(auto)]
+
 ghost use Rattle.std.specs.Prelude.{◌≡◌, [], ◌≤◌, ◌<◌, max, length, take};
 ghost use Rattle.scheduler_rules.specs.Model.{max_versions};
 ghost use Rattle.version_columns.specs.Columns.{columns_of, rows};
@@ -7,7 +9,7 @@ ghost use Rattle.version_columns.specs.Lookup.{Tells, UpTo, RisingRows, Placed, 
 
 use log_format::Stamp;
 
-#[derive(Drop)]
+#[derive(Clone, Copy)]
 pub struct Versions {
     pub items: [u32; 1024],
     pub stamps: [u32; 1024],
@@ -145,7 +147,7 @@ pub fn place_of<'a>(
 }
 
 // The version that a lookup met: where a new version would go, whether a held one was met or the initial one, and its stamp, value and mark.
-#[derive(Drop)]
+#[derive(Clone, Copy)]
 pub struct Chosen {
     pub at: usize,
     pub held: bool,

@@ -1,5 +1,7 @@
 // Judging a version order, code 28, over the map that holds a log's events and the committed stamps, rising: one walk over the order's bytes, which
 // leaves each version's rank.
+#![tactic(auto)]
+
 ghost use Rattle.std.specs.Prelude.{◌≡◌, not, ◌&&◌, ℕ, ◌+◌, ◌-◌, ◌*◌, ◌≤◌, ◌<◌, eqb, length, take, get_or};
 ghost use Rattle.numbers.specs.Numbers.{items};
 ghost use Rattle.history_rules.specs.WellFormed.{most_item};
@@ -22,7 +24,7 @@ const TAG: u8 = 32;
 const MAX_ITEM: u8 = numbers::MAX_ITEM as u8;
 
 // A field of a version order: its item, its place, and how many stamps it has.
-#[derive(Drop)]
+#[derive(Clone, Copy)]
 struct Field {
     item: u8,
     at: usize,

@@ -1,5 +1,7 @@
 // A walk to smallest predecessors among the nodes left, until a node repeats: it finds a cycle where none of those left can be taken.
 // A node is a number below `count`; it is left while its number in `deg` is not 0.
+#![tactic(auto)]
+
 ghost use Rattle.std.specs.Prelude.{◌≡◌, not, ◌&&◌, ◌≤◌, ◌<◌, eqb, length};
 ghost use Rattle.edges.specs.Matrix.{most_nodes, matrix_size, edge_at};
 ghost use Rattle.taking.specs.Nodes.{is_left, left_of, FirstOf};
@@ -54,7 +56,7 @@ fn place_of(path: &[u16], from: usize, end: usize, p: usize) -> usize
 }
 
 // A part of a list: from `start` to before `end`.
-#[derive(Drop)]
+#[derive(Clone, Copy)]
 pub struct Span {
     pub start: usize,
     pub end: usize,
