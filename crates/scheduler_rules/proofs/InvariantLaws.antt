@@ -55,7 +55,7 @@ module _ (k x j v y i n₀ : ℕ) (es : List Event) (old : MarkOf y i n₀ es) w
   mark_kept : ¬ ((y ≡ x) × (i ≡ j)) → (n : ℕ) → n ≡ n₀ → MarkOf y i n (reads k x j v ∷ es)
   mark_kept e n q = (
     (λ c w g. elim g [ inl h ↦ absurd (e (h.1, h.2)) | inr t ↦ (let z = old.0 c w t in omega arith) ]),
-    elim old.1 [ inl z ↦ inl (q ∙ z) | inr t ↦ inr (t.0, inr (rw q t.1)) ],
+    elim old.1 [ inl z ↦ inl (q ∙ z) | inr t ↦ inr (t.0, inr (subst (λ (a : ℕ). Got a y i t.0 es) (sym q) t.1)) ],
   )
 
   mark_up : (n : ℕ) → Up ((y ≡ x) × (i ≡ j)) n₀ k n → MarkOf y i n (reads k x j v ∷ es)
@@ -69,7 +69,10 @@ raised_source es a p = rw (a.stamp_is, a.item_is, a.value_is) p
 
 raised_mark : {x j k : ℕ} {l : List Version} {w : Version} (v : ℕ) (es : List Event) (a : Raised x j k l w)
     → MarkOf a.old.item a.old.stamp a.old.mark es → MarkOf w.item w.stamp w.mark (reads k x j v ∷ es)
-raised_mark {x} {j} {k} {l} {w} v es a h = rw (a.item_is, a.stamp_is) (mark_up k x j v a.old.item a.old.stamp a.old.mark es h w.mark a.mark_is)
+raised_mark {x} {j} {k} {l} {w} v es a h =
+    let u = mark_up k x j v a.old.item a.old.stamp a.old.mark es h w.mark a.mark_is in
+    let s = subst (λ (n : ℕ). MarkOf a.old.item n w.mark (reads k x j v ∷ es)) (sym a.stamp_is) u in
+    subst (λ (y : ℕ). MarkOf y w.stamp w.mark (reads k x j v ∷ es)) (sym a.item_is) s
 
 -- ---- each change
 
@@ -173,12 +176,12 @@ module _ (m : Model) (es : List Event) (i : Invariant m es) (s : Sound m) where
       active = i.active;
       opened = i.opened;
       source = λ w h. let a = of_raise x u.stamp k m.held w h in raised_source es a (i.source a.old a.there);
-      writer = λ w h. let a = of_raise x u.stamp k m.held w h in rw a.stamp_is (i.writer a.old a.there);
+      writer = λ w h. let a = of_raise x u.stamp k m.held w h in subst (λ (n : ℕ). OpenOrDone n m es) (sym a.stamp_is) (i.writer a.old a.there);
       kept = λ n y v p h. let w = i.kept n y v p h in (raise1 x u.stamp k w.0, Memᴰ.map (raise1 x u.stamp k) w.1, w.2, w.3, w.4);
       mark = λ w h. let a = of_raise x u.stamp k m.held w h in raised_mark u.value es a (i.mark a.old a.there);
       mark0 = λ y h. mark_up k x u.stamp u.value y 0 (get_or m.marks y 0) es (i.mark0 y h) _ (of_raise0 x u.stamp k y m.marks (omega (arith, s.wide)));
       gap = λ n y j v c w g l p q l1 l2. elim g [
-        | inl e ↦ (let e0 = e.0 in let e2 = e.2 in let y = i.kept c x w (rw e.1 at p) q in let z = y.3 in let t = b.top y.0 y.1 y.2 (omega arith) in omega arith)
+        | inl e ↦ (let e0 = e.0 in let e2 = e.2 in let y = i.kept c x w (subst (λ (z : ℕ). Put c z w es) e.1 p) q in let z = y.3 in let t = b.top y.0 y.1 y.2 (omega arith) in omega arith)
         | inr t ↦ i.gap n y j v c w t l p q l1 l2
       ];
     }
@@ -243,10 +246,13 @@ module _ (m : Model) (es : List Event) (i : Invariant m es) (s : Sound m) where
           | inl e ↦ (new, put_new new m.held, sym e.1, sym e.0, sym e.2)
           | inr t ↦ (let y = i.kept n y w t h in (y.0, put_old new y.0 m.held y.1, y.2, y.3, y.4))
         ];
-        mark = λ w h. elim (of_put new w m.held h) [ inl e ↦ rw e ((λ n c g. absurd (unread n c g)), inl refl) | inr t ↦ i.mark w t ];
+        mark = λ w h. elim (of_put new w m.held h) [ 
+          | inl e ↦ subst (λ (z : Version). MarkOf z.item z.stamp z.mark (writes k x v ∷ es)) (sym e) ((λ n c g. absurd (unread n c g)), inl refl)
+          | inr t ↦ i.mark w t
+        ];
         mark0 = i.mark0;
         gap = λ n y j w c z g l p q l1 l2. elim p [
-          | inl e ↦ (let e0 = e.0 in across n j w (rw e.1 at g) l (omega arith) (omega arith))
+          | inl e ↦ (let e0 = e.0 in across n j w (subst (λ (z : ℕ). Got n z j w es) e.1 g) l (omega arith) (omega arith))
           | inr t ↦ i.gap n y j w c z g l t q l1 l2
         ];
       }

@@ -2,7 +2,7 @@
 -- end what it saw. By recursion on the events, each case by what the newest needed of those before it.
 -- Assumes nothing.
 use Prim.Native.Nat.{ℕ, ◌≤◌}
-use mathlib.Core.Path.{◌≡◌, sym, ◌∙◌}
+use mathlib.Core.Path.{◌≡◌, sym, ◌∙◌, subst}
 use mathlib.Core.List.{List, [], ◌∷◌}
 use mathlib.Core.Logic.{inl, inr}
 use Rattle.log_format.specs.Events.{Event, begins, reads, writes, commits, aborts}
@@ -16,7 +16,7 @@ done-begun k [] l d = d
 done-begun k (begins i ∷ es) l d = inr (done-begun k es l.1 d)
 done-begun k (reads i y j w ∷ es) l d = done-begun k es l.1 d
 done-begun k (writes i y w ∷ es) l d = done-begun k es l.1 d
-done-begun k (commits i ∷ es) l (inl e) = rw e l.0.0
+done-begun k (commits i ∷ es) l (inl e) = subst (λ (n : ℕ). Begun n es) (sym e) l.0.0
 done-begun k (commits i ∷ es) l (inr d) = done-begun k es l.1 d
 done-begun k (aborts i c ∷ es) l d = done-begun k es l.1 d
 
@@ -26,14 +26,14 @@ undone_begun k (begins i ∷ es) l d = inr (undone_begun k es l.1 d)
 undone_begun k (reads i y j w ∷ es) l d = undone_begun k es l.1 d
 undone_begun k (writes i y w ∷ es) l d = undone_begun k es l.1 d
 undone_begun k (commits i ∷ es) l d = undone_begun k es l.1 d
-undone_begun k (aborts i c ∷ es) l (inl e) = rw e l.0.0.0
+undone_begun k (aborts i c ∷ es) l (inl e) = subst (λ (n : ℕ). Begun n es) (sym e) l.0.0.0
 undone_begun k (aborts i c ∷ es) l (inr d) = undone_begun k es l.1 d
 
 pub put-begun : (k x v : ℕ) (es : List Event) → Lawful es → Put k x v es → Begun k es
 put-begun k x v [] l p = p
 put-begun k x v (begins i ∷ es) l p = inr (put-begun k x v es l.1 p)
 put-begun k x v (reads i y j w ∷ es) l p = put-begun k x v es l.1 p
-put-begun k x v (writes i y w ∷ es) l (inl e) = rw e.0 l.0.0.0
+put-begun k x v (writes i y w ∷ es) l (inl e) = subst (λ (n : ℕ). Begun n es) (sym e.0) l.0.0.0
 put-begun k x v (writes i y w ∷ es) l (inr p) = put-begun k x v es l.1 p
 put-begun k x v (commits i ∷ es) l p = put-begun k x v es l.1 p
 put-begun k x v (aborts i c ∷ es) l p = put-begun k x v es l.1 p
@@ -41,7 +41,7 @@ put-begun k x v (aborts i c ∷ es) l p = put-begun k x v es l.1 p
 pub got-begun : (k x j v : ℕ) (es : List Event) → Lawful es → Got k x j v es → Begun k es
 got-begun k x j v [] l g = g
 got-begun k x j v (begins i ∷ es) l g = inr (got-begun k x j v es l.1 g)
-got-begun k x j v (reads i y h w ∷ es) l (inl e) = rw e.0 l.0.0.0
+got-begun k x j v (reads i y h w ∷ es) l (inl e) = subst (λ (n : ℕ). Begun n es) (sym e.0) l.0.0.0
 got-begun k x j v (reads i y h w ∷ es) l (inr g) = got-begun k x j v es l.1 g
 got-begun k x j v (writes i y w ∷ es) l g = got-begun k x j v es l.1 g
 got-begun k x j v (commits i ∷ es) l g = got-begun k x j v es l.1 g
@@ -65,20 +65,24 @@ one_end k [] l d u = d
 one_end k (begins i ∷ es) l d u = one_end k es l.1 d u
 one_end k (reads i y j w ∷ es) l d u = one_end k es l.1 d u
 one_end k (writes i y w ∷ es) l d u = one_end k es l.1 d u
-one_end k (commits i ∷ es) l (inl e) u = l.0.2 (rw e at u)
+one_end k (commits i ∷ es) l (inl e) u = l.0.2 (subst (λ (n : ℕ). Undone n es) e u)
 one_end k (commits i ∷ es) l (inr d) u = one_end k es l.1 d u
-one_end k (aborts i c ∷ es) l d (inl e) = l.0.0.1 (rw e at d)
+one_end k (aborts i c ∷ es) l d (inl e) = l.0.0.1 (subst (λ (n : ℕ). Done n es) e d)
 one_end k (aborts i c ∷ es) l d (inr u) = one_end k es l.1 d u
 
 -- ---- a transaction has one value for an item
+
+-- a write's stamp and item, exchanged for equal ones
+put_same : {k i x y : ℕ} (v : ℕ) (es : List Event) → k ≡ i → x ≡ y → Put k x v es → Put i y v es
+put_same {i = i} {x = x} v es e f p = subst (λ (z : ℕ). Put i z v es) f (subst (λ (n : ℕ). Put n x v es) e p)
 
 pub put_once : (k x v w : ℕ) (es : List Event) → Lawful es → Put k x v es → Put k x w es → v ≡ w
 put_once k x v w [] l p q = absurd p
 put_once k x v w (begins i ∷ es) l p q = put_once k x v w es l.1 p q
 put_once k x v w (reads i y j u ∷ es) l p q = put_once k x v w es l.1 p q
 put_once k x v w (writes i y u ∷ es) l (inl p) (inl q) = p.2 ∙ sym q.2
-put_once k x v w (writes i y u ∷ es) l (inl p) (inr q) = absurd (l.0.3 (w, rw (p.0, p.1) at q))
-put_once k x v w (writes i y u ∷ es) l (inr p) (inl q) = absurd (l.0.3 (v, rw (q.0, q.1) at p))
+put_once k x v w (writes i y u ∷ es) l (inl p) (inr q) = absurd (l.0.3 (w, put_same w es p.0 p.1 q))
+put_once k x v w (writes i y u ∷ es) l (inr p) (inl q) = absurd (l.0.3 (v, put_same v es q.0 q.1 p))
 put_once k x v w (writes i y u ∷ es) l (inr p) (inr q) = put_once k x v w es l.1 p q
 put_once k x v w (commits i ∷ es) l p q = put_once k x v w es l.1 p q
 put_once k x v w (aborts i c ∷ es) l p q = put_once k x v w es l.1 p q
@@ -99,11 +103,19 @@ seen_after-commit k x j v i es (inl p) = inl p
 seen_after-commit k x j v i es (inr (a, inl p)) = inr (a, inl p)
 seen_after-commit k x j v i es (inr (a, inr p)) = inr (a, inr (inr p.0, p.1))
 
+-- what was seen of a read, said of equal numbers
+seen_same : {k i x y j h v w : ℕ} (es : List Event) → (k ≡ i) × (x ≡ y) × (j ≡ h) × (v ≡ w) → Seen i y h w es → Seen k x j v es
+seen_same {k} {i} {x} {y} {j} {h} {v} {w} es e s =
+    let a = subst (λ (z : ℕ). Seen z y h w es) (sym e.0) s in
+    let b = subst (λ (z : ℕ). Seen k z h w es) (sym e.1) a in
+    let c = subst (λ (z : ℕ). Seen k x z w es) (sym e.2) b in
+    subst (λ (z : ℕ). Seen k x j z es) (sym e.3) c
+
 -- a read was of its own write, or of an older version: the initial one or one of a committed writer
 pub got_seen : (k x j v : ℕ) (es : List Event) → Lawful es → Got k x j v es → Seen k x j v es
 got_seen k x j v [] l g = absurd g
 got_seen k x j v (begins i ∷ es) l g = got_seen k x j v es l.1 g
-got_seen k x j v (reads i y h w ∷ es) l (inl e) = rw (e.0, e.1, e.2, e.3) (saw_seen i y h w es l.0.2)
+got_seen k x j v (reads i y h w ∷ es) l (inl e) = seen_same es e (saw_seen i y h w es l.0.2)
 got_seen k x j v (reads i y h w ∷ es) l (inr g) = got_seen k x j v es l.1 g
 got_seen k x j v (writes i y w ∷ es) l g = seen_after-write k x j v i y w es (got_seen k x j v es l.1 g)
 got_seen k x j v (commits i ∷ es) l g = seen_after-commit k x j v i es (got_seen k x j v es l.1 g)
