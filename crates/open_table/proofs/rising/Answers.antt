@@ -1,0 +1,9 @@
+use Rattle.std.proofs.Common.{◌≡◌, ◌∙◌, length, arith, rules}
+use Rattle.open_table.proofs.ScanLaws.{rises_next}
+use Rattle.open_table.proofs.rising.Goals as goal
+
+pub loop-i-preserved : goal.loop-i-preserved
+loop-i-preserved c =
+    let p = c.loop-i in
+    let places : length c.args.t.stamps ≡ 32 = omega arith in
+    (search rules, rises_next c.args.t.stamps p.i c.args.t.count (omega arith) (omega arith) p.bad c.misplaced-bad.result p.before c.args.last.0 c.misplaced-bad.ensures ∙ p.invariant.1)
