@@ -3,7 +3,6 @@
 use Rattle.std.specs.Prelude.{ℕ, suc, ◌-◌, ◌≤◌, ◌<◌, ◌≡◌, Bool, true, false, ◌⊎◌, List, [], ◌∷◌, map, length, take, get_or}
 use Rattle.std.proofs.Math.Decide.{ℕ_discrete, dec_le, dec_lt}
 use Rattle.lists.specs.Choice.{pick, both, either}
-use Rattle.lists.specs.Member.{◌∈◌}
 use Rattle.scheduler_rules.specs.Model.{Version, below, max_versions}
 use Rattle.scheduler_rules.specs.Sound.{Sorted}
 use Rattle.version_columns.specs.Columns.{rows}

@@ -1,0 +1,18 @@
+use Rattle.std.proofs.Common.{arith}
+use Rattle.version_columns.proofs.Narrow.{narrowing_from, narrowing_skip, narrowing_keep}
+use Rattle.version_columns.proofs.column_drop.Goals as goal
+use Rattle.version_columns.proofs.column_drop.Goals.{then-stamps-i, else-stamps-i}
+
+pub loop-i-init : goal.loop-i-init
+loop-i-init c = narrowing_from c.args.stamp c.args.stamps.now c.args.a.now c.args.count c.args.from (omega arith) (omega arith) (omega arith) c.requires.2
+
+pub loop-i-preserved : goal.loop-i-preserved
+loop-i-preserved c =
+    let p = c.loop-i in
+    let k = c.args.stamp in
+    let ks = c.args.stamps.now in
+    let a = c.args.a.now in
+    elim c.if-stamps-i.branch [
+      | then-stamps-i w ↦ rw (w.a-is, w.left-is) (narrowing_keep k ks a c.args.count p.i p.left p.a p.invariant c.loop-i-test.true (omega arith) (omega arith) w.if-stamps-i.true)
+      | else-stamps-i w ↦ rw (w.a-is, w.left-is) (narrowing_skip k ks a c.args.count p.i p.left p.a p.invariant c.loop-i-test.true (omega arith) (omega arith) w.if-stamps-i.false)
+    ]
