@@ -1,9 +1,11 @@
-// What the programs of the comparison share: the buffer before a call, the hash by which they tell it afterwards, and numbers printed.
+// What the programs of the comparison share: the buffer before a call, the hash by which they tell it afterwards, numbers printed, and
+// input read.
 #![tactic(auto)]
 
-ghost use Rattle.std.specs.Prelude.{◌<◌};
+ghost use Rattle.std.specs.Prelude.{◌<◌, ◌≤◌, length, IfOk};
 
-use libc::STDOUT_FILENO;
+use std::io;
+use std::io::{Read, Write};
 
 fn wide(x: u8) -> u32
     ensures { result < 256 }
@@ -53,7 +55,22 @@ pub fn hash_of_numbers(h: u64, column: &[u32]) -> u64 {
 }
 
 // A number and the byte after it.
-pub fn say(n: u64, end: u8) {
-    io::print_decimal(STDOUT_FILENO, n);
-    io::write_all(STDOUT_FILENO, &[end]);
+pub fn say<W: Write>(out: &mut W, n: u64, end: u8) -> io::Result<()> {
+    write!(out, "{n}")?;
+    out.write_all(&[end])
+}
+
+// Reads until the buffer is full or the input ends, and says how many bytes were read.
+pub fn read_full<R: Read>(input: &mut R, buf: &mut [u8]) -> io::Result<usize>
+    ensures { IfOk result (λ n. n ≤ length buf.new) }
+{
+    let mut done: usize = 0;
+    while done < buf.len() {
+        let n = input.read(&mut buf[done..])?;
+        if n == 0 {
+            return Ok(done);
+        }
+        done += n;
+    }
+    Ok(done)
 }
