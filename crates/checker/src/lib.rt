@@ -118,8 +118,7 @@ fn one_number(c: Checked) -> u32
 }
 
 // The check as the C program on the mill's panel calls it: one number, and the buffer as `check` leaves it.
-#[unsafe(no_mangle)]
-pub extern "C" fn svelmings_check(log: &[u8], order: &[u8], answer: &mut [u8]) -> u32
+pub fn svelmings_check(log: &[u8], order: &[u8], answer: &mut [u8]) -> u32
     ensures { PanelIs log.now order.now answer.old result answer.new }
 {
     let c = check(log, order, answer);

@@ -4,26 +4,27 @@
 #![tactic(auto)]
 
 use checker_rules::Ordered;
-use libc::STDIN_FILENO;
+use std::io;
+use std::io::{BufReader, BufWriter, Read, Write};
 
-fn say_answer(a: Ordered) {
+fn say_answer<W: Write>(to: &mut W, a: Ordered) -> io::Result<()> {
     match a {
         Ordered::Bytes(n) => {
-            told::say(0, b' ');
-            told::say(n as u64, b' ');
+            told::say(to, 0, b' ')?;
+            told::say(to, n as u64, b' ')
         }
         Ordered::Refused(code, place) => {
-            told::say(code as u64, b' ');
-            told::say(place.0 as u64, b' ');
+            told::say(to, code as u64, b' ')?;
+            told::say(to, place.0 as u64, b' ')
         }
     }
 }
 
-fn put(log: &[u8], out: &mut [u8]) {
+fn put<W: Write>(to: &mut W, log: &[u8], out: &mut [u8]) -> io::Result<()> {
     told::fill(out);
     let a = checker::write_order(log, out);
-    say_answer(a);
-    told::say(told::hash_of_bytes(1, out), b'\n');
+    say_answer(to, a)?;
+    told::say(to, told::hash_of_bytes(1, out), b'\n')
 }
 
 // The next number of the input, or its end.
@@ -33,46 +34,55 @@ pub enum Next {
     End,
 }
 
-fn next_number() -> Next {
+fn next_number<R: Read>(input: &mut R) -> io::Result<Next> {
     let mut b = [0u8; 4];
-    if io::read_full(STDIN_FILENO, &mut b) < 4 {
-        return Next::End;
+    if told::read_full(input, &mut b)? < 4 {
+        return Ok(Next::End);
     }
-    Next::Is(log_reader::be32(&b, 0) as usize)
+    Ok(Next::Is(log_reader::be32(&b, 0) as usize))
 }
 
 // Reads the log, of n bytes, to the buffer's front.
-fn read_log(log: &mut [u8], n: usize) {
+fn read_log<R: Read>(input: &mut R, log: &mut [u8], n: usize) -> io::Result<()> {
     if n <= log.len() {
-        io::read_full(STDIN_FILENO, &mut log[..n]);
+        told::read_full(input, &mut log[..n])?;
     }
+    Ok(())
 }
 
 // The case of the log in the first n bytes, and a buffer of this length.
-fn put_part(log: &[u8], n: usize, out: &mut [u8], room: usize) {
+fn put_part<W: Write>(
+    to: &mut W,
+    log: &[u8],
+    n: usize,
+    out: &mut [u8],
+    room: usize,
+) -> io::Result<()> {
     if n <= log.len() {
         if room <= out.len() {
-            put(&log[..n], &mut out[..room]);
+            put(to, &log[..n], &mut out[..room])?;
         }
     }
+    Ok(())
 }
 
-// A proved loop has to end, and nothing says that the input does, so it counts down from a number that no run uses up.
-fn main() {
+// A proved loop has to end, and nothing says that the input does, so its turns are as many as no run uses up.
+fn main(rt: HostRuntime) -> io::Result<()> {
+    let mut input = BufReader::new(rt.alloc(), rt.stdin())?;
+    let mut to = BufWriter::new(rt.alloc(), rt.stdout())?;
     let mut log = [0u8; 65600];
     let mut out = [0u8; 65600];
-    let mut turns = u64::MAX;
-    while turns > 0 {
-        let l = next_number();
+    for _ in 0..u64::MAX {
+        let l = next_number(&mut input)?;
         let Next::Is(n) = l else {
-            return;
+            break;
         };
-        let r = next_number();
+        let r = next_number(&mut input)?;
         let Next::Is(room) = r else {
-            return;
+            break;
         };
-        read_log(&mut log, n);
-        put_part(&log, n, &mut out, room);
-        turns -= 1;
+        read_log(&mut input, &mut log, n)?;
+        put_part(&mut to, &log, n, &mut out, room)?;
     }
+    to.flush()
 }

@@ -3,10 +3,11 @@
 // replies, by which the two programs are compared.
 #![tactic(auto)]
 
-use libc::{STDIN_FILENO, STDOUT_FILENO};
 use log_format::Stamp;
 use scheduler::Called;
 use scheduler_rules::Op;
+use std::io;
+use std::io::Read;
 
 fn operation(kind: u32, stamp: u32, item: u32, value: u32) -> Op {
     let k = Stamp(stamp);
@@ -119,14 +120,13 @@ fn measured(first: Called, n: u64, log: &mut [u8]) -> u64 {
     sum % 1000000007 + (o.state.versions.count % 4096) as u64
 }
 
-fn main() {
-    let mut text = [0u8; 16];
-    io::read_full(STDIN_FILENO, &mut text);
-    let n = decimal(&text);
-    let mut log = io::large_buffer();
+fn main(rt: HostRuntime) -> io::Result<()> {
+    let mut text = Vec::new(rt.alloc());
+    rt.stdin().take(16).read_to_end(&mut text)?;
+    let n = decimal(text.as_slice());
+    let mut log = [0u8; 65536];
     let o = scheduler::fresh(&mut log);
     let p = filled(n % 10 != 0, o, &mut log);
     let sum = measured(p, n, &mut log);
-    io::print_decimal(STDOUT_FILENO, sum);
-    io::write_all(STDOUT_FILENO, b"\n");
+    println!(rt; "{sum}")
 }

@@ -4,9 +4,11 @@
 #![tactic(auto)]
 
 use checker_rules::Ordered;
-use libc::{STDIN_FILENO, STDOUT_FILENO};
 use line_format::Parsed;
 use scheduler_rules::{Op, Reply};
+use std::io::{BufWriter, Read, Write};
+use std::rt::Files;
+use std::{env, fs, io};
 
 // Where the next byte stands in the chunk that was read last, and how many it has.
 #[derive(Clone, Copy)]
@@ -29,25 +31,29 @@ pub enum Taken {
     End,
 }
 
-fn next_byte(chunk: &mut [u8; 4096], c: Cursor) -> Byte {
+// What was answered is written before more is read, so that who types the lines sees each reply at once.
+fn next_byte<R: Read, W: Write>(
+    input: &mut R,
+    out: &mut W,
+    chunk: &mut [u8; 4096],
+    c: Cursor,
+) -> io::Result<Byte> {
     let at = c.at;
     if at < c.have {
         if at < 4096 {
-            return Byte::Is(
-                chunk[at],
-                Cursor {
-                    at: at + 1,
-                    have: c.have,
-                },
-            );
+            let next = Cursor {
+                at: at + 1,
+                have: c.have,
+            };
+            return Ok(Byte::Is(chunk[at], next));
         }
     }
-    let got = libc::read(STDIN_FILENO, chunk);
-    let n = io::count(got, chunk);
+    out.flush()?;
+    let n = input.read(&mut *chunk)?;
     if n == 0 {
-        return Byte::End;
+        return Ok(Byte::End);
     }
-    Byte::Is(chunk[0], Cursor { at: 1, have: n })
+    Ok(Byte::Is(chunk[0], Cursor { at: 1, have: n }))
 }
 
 // The line with one byte more, up to 64.
@@ -68,26 +74,30 @@ fn last(some: bool, len: usize, c: Cursor) -> Taken {
     }
 }
 
-// The next line. A proved loop has to end, and nothing says that the input does, so it counts down from a number that no run uses up.
-fn next_line(chunk: &mut [u8; 4096], from: Cursor, line: &mut [u8; 64]) -> Taken {
+// The next line. A proved loop has to end, and nothing says that the input does, so its turns are as many as no run uses up.
+fn next_line<R: Read, W: Write>(
+    input: &mut R,
+    out: &mut W,
+    chunk: &mut [u8; 4096],
+    from: Cursor,
+    line: &mut [u8; 64],
+) -> io::Result<Taken> {
     let mut c = from;
     let mut len: usize = 0;
     let mut some = false;
-    let mut turns = u64::MAX;
-    while turns > 0 {
-        let b = next_byte(chunk, c);
+    for _ in 0..u64::MAX {
+        let b = next_byte(input, out, chunk, c)?;
         let Byte::Is(x, next) = b else {
-            return last(some, len, c);
+            return Ok(last(some, len, c));
         };
         c = next;
         if x == b'\n' {
-            return Taken::Line(len, c);
+            return Ok(Taken::Line(len, c));
         }
         len = keep(line, len, x);
         some = true;
-        turns -= 1;
     }
-    Taken::End
+    Ok(Taken::End)
 }
 
 // What the first n bytes ask.
@@ -102,89 +112,87 @@ fn parse_first(line: &[u8; 64], n: usize) -> Parsed {
     parse_part(line, n)
 }
 
-fn say_reply(op: Op, r: Reply) {
-    let mut out = [0u8; 40];
-    let n = reply_lines::write_reply(op, r, &mut out);
-    if n <= 40 {
-        io::write_all(STDOUT_FILENO, &out[..n]);
+// Writes the first n bytes.
+fn say_first<W: Write>(out: &mut W, line: &[u8], n: usize) -> io::Result<()> {
+    if n <= line.len() {
+        out.write_all(&line[..n])?;
     }
+    Ok(())
 }
 
-fn say_bad() {
-    let mut out = [0u8; 40];
-    let n = reply_lines::write_bad(&mut out);
-    if n <= 40 {
-        io::write_all(STDOUT_FILENO, &out[..n]);
-    }
+fn say_reply<W: Write>(out: &mut W, op: Op, r: Reply) -> io::Result<()> {
+    let mut line = [0u8; 40];
+    let n = reply_lines::write_reply(op, r, &mut line);
+    say_first(out, &line, n)
 }
 
-fn say_used(used: usize) {
-    let mut out = [0u8; 40];
-    let n = reply_lines::write_log_line(used, &mut out);
-    if n <= 40 {
-        io::write_all(STDOUT_FILENO, &out[..n]);
-    }
+fn say_bad<W: Write>(out: &mut W) -> io::Result<()> {
+    let mut line = [0u8; 40];
+    let n = reply_lines::write_bad(&mut line);
+    say_first(out, &line, n)
+}
+
+fn say_used<W: Write>(out: &mut W, used: usize) -> io::Result<()> {
+    let mut line = [0u8; 40];
+    let n = reply_lines::write_log_line(used, &mut line);
+    say_first(out, &line, n)
 }
 
 // Answers each line in turn; the bytes used at the end.
-fn serve(log: &mut [u8]) -> usize {
+fn serve<R: Read, W: Write>(input: &mut R, out: &mut W, log: &mut [u8]) -> io::Result<usize> {
     let mut o = scheduler::fresh(log);
     let mut chunk = [0u8; 4096];
     let mut line = [0u8; 64];
     let mut c = Cursor { at: 0, have: 0 };
-    let mut turns = u64::MAX;
-    while turns > 0 {
-        let t = next_line(&mut chunk, c, &mut line);
+    for _ in 0..u64::MAX {
+        let t = next_line(input, out, &mut chunk, c, &mut line)?;
         let Taken::Line(n, next) = t else {
-            return o.state.core.used.0;
+            return Ok(o.state.core.used.0);
         };
         c = next;
-        turns -= 1;
         let p = parse_first(&line, n);
         let Parsed::Line(op) = p else {
-            say_bad();
+            say_bad(out)?;
             continue;
         };
         o = scheduler::call(o.state, op, log);
-        say_reply(op, o.reply);
+        say_reply(out, op, o.reply)?;
     }
-    o.state.core.used.0
+    Ok(o.state.core.used.0)
 }
 
-// Writes the first bytes of the log to the file that an argument names; says why it cannot.
-fn write_file(i: usize, log: &[u8], n: usize) {
-    let mut path = io::buffer();
-    let length = os::arg(i, &mut path);
-    let fd = os::open_overwrite(&path[..length]);
-    if fd < 0 {
-        os::fail(&path[..length]);
-        return;
+// Writes the first bytes of the log to a file; says why the file cannot be opened.
+fn write_file<R: Files + Eprint>(rt: &R, path: &str, log: &[u8], n: usize) -> io::Result<()> {
+    let opened = fs::create(rt, path);
+    match opened {
+        Ok(mut file) => say_first(&mut file, log, n),
+        Err(why) => eprintln!(rt; "{path}: {why}"),
     }
-    if n <= log.len() {
-        io::write_all(fd, &log[..n]);
-    }
-    libc::close(fd);
 }
 
-// Writes the timestamp order of the log's first bytes to the file that the second argument names, where the log has one.
-fn write_order(log: &[u8], used: usize) {
+// Writes the timestamp order of the log's first bytes to a file, where the log has one.
+fn write_order<R: Files + Eprint>(rt: &R, path: &str, log: &[u8], used: usize) -> io::Result<()> {
     if log.len() < used {
-        return;
+        return Ok(());
     }
     let mut order = [0u8; 65792];
     let a = checker::write_order(&log[..used], &mut order);
     let Ordered::Bytes(n) = a else {
-        return;
+        return Ok(());
     };
-    write_file(2, &order, n);
+    write_file(rt, path, &order, n)
 }
 
-fn main() {
-    let mut log = io::large_buffer();
-    let used = serve(&mut log);
-    say_used(used);
-    if os::arg_count() == 3 {
-        write_file(1, &log, used);
-        write_order(&log, used);
+fn main(rt: HostRuntime) -> io::Result<()> {
+    let mut log = [0u8; 65536];
+    let mut out = BufWriter::new(rt.alloc(), rt.stdout())?;
+    let used = serve(&mut rt.stdin(), &mut out, &mut log)?;
+    say_used(&mut out, used)?;
+    out.flush()?;
+    let args: Vec<String> = env::args(&rt)?.collect(rt.alloc())?;
+    if args.len() == 3 {
+        write_file(&rt, args[1].as_str(), &log, used)?;
+        write_order(&rt, args[2].as_str(), &log, used)?;
     }
+    Ok(())
 }

@@ -7,11 +7,12 @@
 #![tactic(auto)]
 
 use decision::Core;
-use libc::STDIN_FILENO;
 use log_format::{Place, Stamp};
 use open_table::OpenTable;
 use scheduler::{Called, State};
 use scheduler_rules::Op;
+use std::io;
+use std::io::{BufReader, BufWriter, Read, Write};
 use version_columns::Versions;
 
 // The state's numbers that stand in no table.
@@ -33,12 +34,12 @@ fn set(tables: &mut [u32], place: usize, n: u32) {
 }
 
 // The tables that n settings make.
-fn read_tables(n: u32) -> [u32; 4192] {
+fn read_tables<R: Read>(input: &mut R, n: u32) -> io::Result<[u32; 4192]> {
     let mut tables = [0u32; 4192];
     let mut b = [0u8; 8];
     let mut k: u32 = 0;
     while k < n {
-        io::read_full(STDIN_FILENO, &mut b);
+        told::read_full(input, &mut b)?;
         set(
             &mut tables,
             log_reader::be32(&b, 0) as usize,
@@ -46,7 +47,7 @@ fn read_tables(n: u32) -> [u32; 4192] {
         );
         k += 1;
     }
-    tables
+    Ok(tables)
 }
 
 // The i-th number of the tables from a place on.
@@ -135,33 +136,40 @@ fn hash_of_state(s: State) -> u64 {
 }
 
 // What a call gave, and the buffer that it left.
-fn tell(o: Called, log: &[u8]) {
+fn tell<W: Write>(out: &mut W, o: Called, log: &[u8]) -> io::Result<()> {
     let r = o.reply;
-    told::say(r.code as u64, b' ');
-    told::say(r.stamp.0 as u64, b' ');
-    told::say(r.value as u64, b' ');
+    told::say(out, r.code as u64, b' ')?;
+    told::say(out, r.stamp.0 as u64, b' ')?;
+    told::say(out, r.value as u64, b' ')?;
     let s = o.state;
-    told::say(s.core.last.0 as u64, b' ');
-    told::say(s.core.used.0 as u64, b' ');
-    told::say(s.core.live.count as u64, b' ');
-    told::say(s.versions.count as u64, b' ');
-    told::say(hash_of_state(s), b' ');
-    told::say(told::hash_of_bytes(1, log), b'\n');
+    told::say(out, s.core.last.0 as u64, b' ')?;
+    told::say(out, s.core.used.0 as u64, b' ')?;
+    told::say(out, s.core.live.count as u64, b' ')?;
+    told::say(out, s.versions.count as u64, b' ')?;
+    told::say(out, hash_of_state(s), b' ')?;
+    told::say(out, told::hash_of_bytes(1, log), b'\n')
 }
 
 // ---- the cases
 
-fn put(s: State, op: Op, log: &mut [u8]) {
+fn put<W: Write>(out: &mut W, s: State, op: Op, log: &mut [u8]) -> io::Result<()> {
     told::fill(log);
     let o = scheduler::call(s, op, log);
-    tell(o, log);
+    tell(out, o, log)
 }
 
 // The call on a buffer of this length.
-fn put_part(s: State, op: Op, log: &mut [u8], room: usize) {
+fn put_part<W: Write>(
+    out: &mut W,
+    s: State,
+    op: Op,
+    log: &mut [u8],
+    room: usize,
+) -> io::Result<()> {
     if room <= log.len() {
-        put(s, op, &mut log[..room]);
+        put(out, s, op, &mut log[..room])?;
     }
+    Ok(())
 }
 
 fn op_of(front: &[u8; 40]) -> Op {
@@ -184,23 +192,29 @@ fn counts_of(front: &[u8; 40]) -> Counts {
 }
 
 // The case that ten numbers begin; its settings are still to be read.
-fn put_case(front: &[u8; 40], log: &mut [u8]) {
+fn put_case<R: Read, W: Write>(
+    input: &mut R,
+    out: &mut W,
+    front: &[u8; 40],
+    log: &mut [u8],
+) -> io::Result<()> {
     let room = log_reader::be32(front, 16) as usize;
-    let tables = read_tables(log_reader::be32(front, 20));
+    let tables = read_tables(input, log_reader::be32(front, 20))?;
     let s = state_of(counts_of(front), &tables);
-    put_part(s, op_of(front), log, room);
+    put_part(out, s, op_of(front), log, room)
 }
 
-// A proved loop has to end, and nothing says that the input does, so it counts down from a number that no run uses up.
-fn main() {
+// A proved loop has to end, and nothing says that the input does, so its turns are as many as no run uses up.
+fn main(rt: HostRuntime) -> io::Result<()> {
+    let mut input = BufReader::new(rt.alloc(), rt.stdin())?;
+    let mut out = BufWriter::new(rt.alloc(), rt.stdout())?;
     let mut log = [0u8; 65600];
     let mut front = [0u8; 40];
-    let mut turns = u64::MAX;
-    while turns > 0 {
-        if io::read_full(STDIN_FILENO, &mut front) < 40 {
-            return;
+    for _ in 0..u64::MAX {
+        if told::read_full(&mut input, &mut front)? < 40 {
+            break;
         }
-        put_case(&front, &mut log);
-        turns -= 1;
+        put_case(&mut input, &mut out, &front, &mut log)?;
     }
+    out.flush()
 }

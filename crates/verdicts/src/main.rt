@@ -2,8 +2,8 @@
 // transactions, dense graphs of 256. The expected output is written by hand from document 01.
 #![tactic(auto)]
 
-use libc::STDOUT_FILENO;
 use log_format::{Added, Place, Record, Stamp};
+use std::io;
 
 // The first n bytes, or all where there are fewer.
 fn front(s: &[u8], n: usize) -> &[u8] {
@@ -14,11 +14,11 @@ fn front(s: &[u8], n: usize) -> &[u8] {
 }
 
 // The verdict on the first bytes of a log and an order, under a name.
-fn judged(name: &[u8], log: &[u8], used: usize, order: &[u8]) {
+fn judged(rt: &impl Print, name: &str, log: &[u8], used: usize, order: &[u8]) -> io::Result<()> {
     let mut line = [0u8; 2825];
     let n = verdict_line::write_verdict(front(log, used), order, &mut line);
-    io::write_all(STDOUT_FILENO, name);
-    io::write_all(STDOUT_FILENO, &line[..n]);
+    print!(rt; "{name}")?;
+    rt.write_all(&line[..n])
 }
 
 // ---- logs
@@ -161,11 +161,11 @@ fn falling(order: &mut [u8], from: usize, first: u32, step: u32, n: usize) {
 // ---- the cases
 
 // A header and then zeros: a byte over the limit is seen first, then the unknown tag 0.
-fn long_logs() {
+fn long_logs(rt: &impl Print) -> io::Result<()> {
     let mut log = [0u8; 65537];
     log_writer::write_header(&mut log);
-    judged(b"65537 bytes: ", &log, 65537, b"");
-    judged(b"65536 bytes: ", &log, 65536, b"");
+    judged(rt, "65537 bytes: ", &log, 65537, b"")?;
+    judged(rt, "65536 bytes: ", &log, 65536, b"")
 }
 
 // n transactions begin and commit; the bytes used.
@@ -174,26 +174,24 @@ fn committed(log: &mut [u8], n: u32) -> usize {
     each(log, first, Turn::Commits, n)
 }
 
-fn many_committed() {
+fn many_committed(rt: &impl Print) -> io::Result<()> {
     let mut log = [0u8; 4096];
     let few = committed(&mut log, 256);
-    judged(b"256 committed: ", &log, few, b"");
-    short_answer(&log, few);
+    judged(rt, "256 committed: ", &log, few, b"")?;
+    short_answer(rt, &log, few)?;
     let many = committed(&mut log, 257);
-    judged(b"257 committed: ", &log, many, b"");
+    judged(rt, "257 committed: ", &log, many, b"")
 }
 
 // The first bytes of a log, under no order, with an answer that is a byte too short for 256 stamps.
-fn short_answer(log: &[u8], used: usize) {
+fn short_answer(rt: &impl Print, log: &[u8], used: usize) -> io::Result<()> {
     let mut answer = [0u8; 1023];
     let r = checker::svelmings_check(front(log, used), b"", &mut answer);
-    io::write_all(STDOUT_FILENO, b"256 committed, 1023 bytes: ");
-    io::print_decimal(STDOUT_FILENO, r as u64);
-    io::write_all(STDOUT_FILENO, b"\n");
+    println!(rt; "256 committed, 1023 bytes: {r}")
 }
 
 // 200 before 199 before 198, down to 1, and 1 before 200, which reads what 1 wrote.
-fn cycle_of_200() {
+fn cycle_of_200(rt: &impl Print) -> io::Result<()> {
     let mut log = [0u8; 8192];
     let first = begun(&mut log, 200);
     let paired = each(&mut log, first, Turn::Pairs, 100);
@@ -208,12 +206,12 @@ fn cycle_of_200() {
     put_two(&mut order, 405, 5);
     put(&mut order, 407, 1);
     falling(&mut order, 408, 1, 1, 1);
-    judged(b"cycle of 200: ", &log, used, &order);
+    judged(rt, "cycle of 200: ", &log, used, &order)
 }
 
 // Each of 256 transactions writes item 0 and reads it from the one before: under the order of their stamps an edge leads from each to
 // each later one. Under the falling order the first reads from version 0, so an edge leads from 1 to all, and from 3 to 1.
-fn dense() {
+fn dense(rt: &impl Print) -> io::Result<()> {
     let mut log = [0u8; 16384];
     let first = begun(&mut log, 256);
     let wrote = each(&mut log, first, Turn::HandsOn, 256);
@@ -222,19 +220,19 @@ fn dense() {
     put(&mut order, 0, 32);
     put_two(&mut order, 1, 1025);
     falling(&mut order, 4, 256, 1, 256);
-    judged(b"dense, falling order: ", &log, used, &order);
-    rising(&log, used, &mut order);
+    judged(rt, "dense, falling order: ", &log, used, &order)?;
+    rising(rt, &log, used, &mut order)
 }
 
 // The log under its timestamp order.
-fn rising(log: &[u8], used: usize, order: &mut [u8]) {
+fn rising(rt: &impl Print, log: &[u8], used: usize, order: &mut [u8]) -> io::Result<()> {
     checker::write_order(front(log, used), order);
-    judged(b"dense, rising order: ", log, used, order);
+    judged(rt, "dense, rising order: ", log, used, order)
 }
 
-fn main() {
-    long_logs();
-    many_committed();
-    cycle_of_200();
-    dense();
+fn main(rt: HostRuntime) -> io::Result<()> {
+    long_logs(&rt)?;
+    many_committed(&rt)?;
+    cycle_of_200(&rt)?;
+    dense(&rt)
 }
