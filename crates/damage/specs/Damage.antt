@@ -1,6 +1,6 @@
 -- When the versions' columns and the initial marks are undamaged.
 -- Assumes nothing.
-use Rattle.std.specs.Prelude.{ℕ, ◌≤◌, ◌<◌, ◌≡◌, Bool, true, ◌&&◌, ◌||◌, List, [], ◌∷◌, ◌++◌, eqb, leb, ltb, take, drop, replicate}
+use Rattle.std.specs.Prelude.{ℕ, ◌≤◌, ◌≡◌, Bool, true, ◌&&◌, ◌||◌, List, [], ◌∷◌, ◌++◌, eqb, leb, ltb, take, drop, replicate}
 use Rattle.lists.specs.Member.{◌∈◌}
 use Rattle.scheduler_rules.specs.Model.{Version, max_item, max_versions}
 use Rattle.scheduler_rules.specs.Sound.{Sorted, Proper}
