@@ -1,6 +1,6 @@
 /* Judges a log and a version order from two files, by the proved checker. Prints what `check_log` prints.
  *
- *     rt staticlib checker
+ *     python3 second/built.py
  *     gcc -Wall -Wextra -o target/example panel/example.c target/staticlib/libchecker.a
  *     target/example LOG ORDER
  *

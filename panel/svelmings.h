@@ -1,9 +1,9 @@
 /* The checker of version store logs, as the C program on the mill's panel calls it.
  *
- * `rt staticlib checker` makes the archive target/staticlib/libchecker.a that defines it, for x86-64 Linux. The function is proved for
- * all bytes and lengths: it always returns, reads nothing but the log and the order, and writes nothing but the answer's first bytes.
- * What is not proved is this declaration, that it fits the archive, and that each pointer leads to as many bytes as its length says,
- * 0 included: a pointer is never null, and the answer overlaps neither the log nor the order.
+ * `python3 second/built.py` makes the archive target/staticlib/libchecker.a that defines it, for x86-64 Linux. The function is proved
+ * for all bytes and lengths: it always returns, reads nothing but the log and the order, and writes nothing but the answer's first
+ * bytes. What is not proved is this declaration, that it fits the archive, and that each pointer leads to as many bytes as its length
+ * says, 0 included: a pointer is never null, and the answer overlaps neither the log nor the order.
  */
 #ifndef SVELMINGS_H
 #define SVELMINGS_H
