@@ -4,11 +4,11 @@ use Prim.Native.Nat.{ℕ, ◌≤◌}
 use native.Mathlib.Omega.{arith}
 use native.Mathlib.Decide.{ℕ_discrete}
 use mathlib.Core.Path.{◌≡◌, refl, sym}
-use mathlib.Core.Bool.{Bool, true, false, cond, ◌&&◌, ◌||◌}
+use mathlib.Core.Bool.{Bool, true, false, ◌||◌}
 use mathlib.Core.Logic.{◌⊎◌, inl, inr, ◌≢◌}
 use lib.Dec.{eqb, leb}
-use borrow.Author.Tests.{eqb-true, eqb-false, leb-true, le-leb, eq-eqb, ne_eqb}
-use Rattle.lists.specs.Choice.{pick, either}
+use borrow.Author.Tests.{eqb-true, eqb-false, leb-true, le-leb, eq-eqb}
+use Rattle.lists.specs.Choice.{either}
 use Rattle.lists.proofs.ChoiceLaws.{pick_yes, pick_no, pick_by, cond_by}
 use Rattle.scheduler_rules.specs.Model.{max_item}
 use Rattle.scheduler_rules.specs.Table.{Good, most_item, most_value}

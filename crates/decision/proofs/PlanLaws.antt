@@ -1,19 +1,19 @@
 -- Each plan is the table's outcome: where a test of the plan holds, so does the row of the table with its code, and no row before it.
 -- Assumes nothing.
-use Prim.Native.Nat.{ℕ, suc, ◌+◌, ◌-◌, ◌≤◌, ◌<◌}
+use Prim.Native.Nat.{ℕ, ◌+◌, ◌-◌, ◌≤◌, ◌<◌}
 use native.Mathlib.Omega.{arith}
 use mathlib.Core.Path.{◌≡◌, refl, sym, ap, ◌∙◌}
 use mathlib.Core.Bool.{Bool, true, false, cond}
-use mathlib.Core.List.{List, [], ◌∷◌}
+use mathlib.Core.List.{[], ◌∷◌}
 use mathlib.Core.Logic.{◌≢◌}
 use lib.Dec.{eqb, leb, ltb}
 use lib.ListN.{length, get_or}
 use borrow.Author.Tests.{ltb-true, ltb-false, leb-true, leb-false, eqb-true, eqb-false}
 use Rattle.lists.specs.Member.{◌∈◌}
 use Rattle.lists.proofs.ChoiceLaws.{cond_by}
-use Rattle.log_format.specs.Events.{Event, begins, reads, writes, commits, aborts}
-use Rattle.scheduler_rules.specs.Model.{Version, Model, max_open, max_versions, initial, Same, Waits, Late, Wrote, begun, got, stored, ended, dropped}
-use Rattle.scheduler_rules.specs.Table.{Outcome, Good, answer, refuse, seen, overlaid, table, Row2, Row3, Row4, Row5, Row6, Row7, Row8, Row9, Row10}
+use Rattle.log_format.specs.Events.{reads, aborts}
+use Rattle.scheduler_rules.specs.Model.{Version, Model, max_open, max_versions, initial, Waits, Wrote, got, dropped}
+use Rattle.scheduler_rules.specs.Table.{Good, answer, refuse, seen, overlaid, table, Row2, Row3, Row4, Row5, Row6, Row7, Row8, Row9}
 use Rattle.scheduler_rules.specs.Sizes.{sizes}
 use Rattle.scheduler_rules.specs.declared.Op.{Op}
 use Rattle.scheduler_rules.proofs.Rows.{
@@ -46,9 +46,9 @@ use Rattle.open_table.proofs.ScanLaws.{holds_yes, holds-no}
 use Rattle.version_columns.specs.Lookup.{Answers}
 use Rattle.version_columns.specs.declared.Chosen.{Chosen}
 use Rattle.version_columns.proofs.ChosenLaws.{chosen_own, chosen_other, chosen-beneath, chosen_at, chosen_positive, chosen-initial}
-use Rattle.decision.specs.declared.Due.TheVariants.{Nothing, Begin, ReadInitial, Read, Write, Commit, Abort}
+use Rattle.decision.specs.declared.Due.TheVariants.{ReadInitial, Read}
 use Rattle.decision.specs.declared.Plan.{Plan}
-use Rattle.decision.specs.Plans.{no, go, answer_plan, fitting, waits_on, read_due, begin_plan, end_plan, read_plan, write_plan}
+use Rattle.decision.specs.Plans.{no, answer_plan, waits_on, read_due, begin_plan, end_plan, read_plan, write_plan}
 use Rattle.decision.specs.Decided.{Deciding, Decided, due_of, outcome_of, PlaceIs}
 
 module _ (room : ℕ) (op : Op) (m : Model) (d : Deciding room op m) where

@@ -1,23 +1,21 @@
 -- The damage check passes exactly where the state is the picture of a sound model within the room: each of its tests is one part of that.
 -- Assumes nothing.
-use Prim.Native.Nat.{ℕ, ◌+◌, ◌≤◌, ◌<◌}
+use Prim.Native.Nat.{ℕ, ◌≤◌}
 use native.Mathlib.Omega.{arith}
-use mathlib.Core.Path.{◌≡◌, refl, sym, ap, ◌∙◌, subst}
-use mathlib.Core.Bool.{Bool, true, false, ◌&&◌}
+use mathlib.Core.Path.{◌≡◌, refl, sym, ap, subst}
+use mathlib.Core.Bool.{Bool, true, false}
 use mathlib.Core.List.{List}
-use lib.Dec.{leb}
 use lib.ListN.{length, take}
 use borrow.Author.Tests.{leb-true, le-leb}
 use Rattle.log_format.specs.Whole.{max_log}
-use Rattle.scheduler_rules.specs.Model.{Version, Model, max_open, max_versions}
-use Rattle.scheduler_rules.specs.Sound.{Sound}
+use Rattle.scheduler_rules.specs.Model.{Model, max_open}
 use Rattle.scheduler_rules.specs.Table.{Good}
 use Rattle.scheduler_rules.specs.declared.Op.{Op}
-use Rattle.open_table.specs.Open.{stamps_of, table_of}
+use Rattle.open_table.specs.Open.{stamps_of}
 use Rattle.open_table.specs.declared.OpenTable.{OpenTable}
 use Rattle.open_table.specs.Intact.{is_intact}
 use Rattle.open_table.proofs.IntactLaws.{intact_is, intact_table, and_both, and_parts}
-use Rattle.version_columns.specs.Columns.{rows, columns_of, versions_of}
+use Rattle.version_columns.specs.Columns.{rows, versions_of}
 use Rattle.version_columns.specs.declared.Versions.{Versions}
 use Rattle.version_columns.proofs.RowLaws.{ready_count}
 use Rattle.damage.specs.Damage.{marks_sound, columns_sound}

@@ -3,7 +3,7 @@
 use Rattle.std.specs.Prelude.{ℕ, ◌+◌, ◌≤◌, ◌<◌, ◌≡◌, Bool, true, false, ◌&&◌, List, [], ◌∷◌, leb, length, take, get_or}
 use Rattle.log_format.specs.Whole.{max_log}
 use Rattle.log_format.specs.Events.{Event, begins, reads, writes, commits, aborts}
-use Rattle.scheduler_rules.specs.Model.{Version, Model, max_open, max_versions, initial, Same, Wrote, begun, got, stored, ended, dropped}
+use Rattle.scheduler_rules.specs.Model.{Model, max_open, max_versions, initial, Same, Wrote, begun, got, stored, ended, dropped}
 use Rattle.scheduler_rules.specs.Table.{Outcome, Good, table}
 use Rattle.scheduler_rules.specs.Sizes.{sizes}
 use Rattle.scheduler_rules.specs.Sound.{Sound}

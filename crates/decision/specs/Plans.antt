@@ -1,6 +1,6 @@
 -- The plan that each kind of call makes from the few numbers that it looks at, in the order of the reply table.
 -- Assumes nothing.
-use Rattle.std.specs.Prelude.{ℕ, ◌+◌, ◌-◌, Bool, true, false, cond, ◌&&◌, ◌||◌, List, eqb, leb, ltb}
+use Rattle.std.specs.Prelude.{ℕ, ◌+◌, ◌-◌, Bool, false, cond, ◌&&◌, ◌||◌, List, eqb, leb, ltb}
 use Rattle.scheduler_rules.specs.Model.{max_open, max_versions, max_item}
 use Rattle.scheduler_rules.specs.declared.Op.{Op}
 use Rattle.open_table.specs.Open.{holds}
