@@ -28,7 +28,7 @@ Files are under `crates/`. No call has a `requires`.
 | Promise | Theorem | File |
 |---|---|---|
 | Nothing added, as `add` says, is nothing more | `sum-zero`, `Sums`: `known`, its `whole` | low/proofs/SumLaws.antt |
-| A sum | `add`: `r ≡ sumOf a b` | low/src/lib.rt |
+| A sum | `add`: `result ≡ sum_of a b` | low/src/lib.rt |
 | Its half | `half`, same file | |
 
 | Promise | Theorem | File (low/) |
@@ -46,8 +46,8 @@ The fields of `Sums` in low/specs/Sum.antt:
 | adds something else | `adds_one` in low/must-fail/; `adds_nothing` in low/ and top/must-fail/ |
 """,
     "crates/low/src/lib.rt": """// Sums.
-ghost use mathlib.Core.Path.{_≡_};
-ghost use Rattle·low·specs.specs.Sum.{sumOf};
+ghost use mathlib.Core.Path.{◌≡◌};
+ghost use Rattle.low.specs.Sum.{sum_of};
 
 // The most.
 pub const MOST: u32 = 8;
@@ -55,7 +55,7 @@ pub const MOST: u32 = 8;
 pub struct Stamp(pub u32);
 
 pub fn add(a: u32, b: u32) -> u32
-    ensures { λ r. ⌜ r ≡ sumOf a b ⌝ }
+    ensures { result ≡ sum_of a b }
 {
     a + b
 }
@@ -68,11 +68,11 @@ pub fn half(a: u32) -> u32 {
 
 """ + SHORT_FUNCTION,
     "crates/low/specs/Sum.antt": """-- Sums.
-use mathlib.Core.Path.{_≡_}
-use Prim.Native.Nat.{ℕ, _+_}
+use mathlib.Core.Path.{◌≡◌}
+use Prim.Native.Nat.{ℕ, ◌+◌}
 
-abbrev pub sumOf : ℕ → ℕ → ℕ
-sumOf a b = a + b
+abbrev pub sum_of : ℕ → ℕ → ℕ
+sum_of a b = a + b
 
 pub record Whole (a : ℕ) : Type 0 where
   pub whole : a ≡ a
@@ -82,24 +82,24 @@ pub record Sums (a : ℕ) : Type 0 where
 """,
     "crates/low/proofs/SumLaws.antt": """-- Sums.
 use mathlib.Core.Path.{
-  _≡_,
+  ◌≡◌,
   refl,
 }
-use Prim.Native.Nat.{ℕ, _+_}
-use mathlib.Core.List.{map, _∷_ as _before_}
-use Rattle·low·specs.specs.Sum as sums
+use Prim.Native.Nat.{ℕ, ◌+◌}
+use mathlib.Core.List.{map, ◌∷◌ as ◌before◌}
+use Rattle.low.specs.Sum as sums
 
 zero-right : (a : ℕ) → a + 0 ≡ a
-zero-right a = map (_+ 0) (a before refl)
+zero-right a = map (◌+ 0) (a before refl)
 
 module _ (a : ℕ)
     (b : ℕ) where
-  pub sum-zero : sums.Sums (sums.sumOf a 0) → a ≡ a
+  pub sum-zero : sums.Sums (sums.sum_of a 0) → a ≡ a
   unfolding zero-right
-  sum-zero s = zero-right a (record { known = s .known })
+  sum-zero s = zero-right a (record { known = s.known })
 """,
     "crates/low/proofs/MoreLaws.antt": """-- One more.
-use Prim.Native.Nat.{ℕ, _+_}
+use Prim.Native.Nat.{ℕ, ◌+◌}
 
 pub one-more : ℕ → ℕ
 one-more a = a + 1
@@ -108,13 +108,12 @@ one-more a = a + 1
 -- ---- places
 
 abbrev start-from-then1 : tie.Then1 → tie.Start
-start-from-then1 c = c .before .before .before .before .before
+start-from-then1 c = c.before.before.before.before.before
 
 -- ---- needs
 
 returns : tie.Need-returns
-returns c = c .before .before
-    .before .before .args
+returns c = c.before.before.before.before.args
 """,
     "tools/long-functions.txt": "# none\n",
     "crates/low/must-fail/adds_one.edit": "# adds one\nfile: src/lib.rt\nold:     a + b\nnew:     a + 1\n",
@@ -145,8 +144,8 @@ WRONG = {
          [f"{PAGE}:7: there is no crates/low/proofs/Sums.antt"]
          + [f"{PAGE}:7: `{name}` is not in crates/low/proofs/Sums.antt" for name in ("sum-zero", "Sums", "known")]),
         (PAGE, "its `whole`", "its `hole`", [f"{PAGE}:7: `hole` is defined nowhere under crates/"]),
-        (PAGE, "sumOf a b`", "sumOf a z`", [f"{PAGE}:8: `z` is not in {CODE}"]),
-        (PAGE, "sumOf a b`", "sumBy a b`", [f"{PAGE}:8: `sumBy` is defined nowhere under crates/"]),
+        (PAGE, "sum_of a b`", "sum_of a z`", [f"{PAGE}:8: `z` is not in {CODE}"]),
+        (PAGE, "sum_of a b`", "sum_by a b`", [f"{PAGE}:8: `sum_by` is defined nowhere under crates/"]),
         (PAGE, "`half`, same", "`half`, `main`, same", [f"{PAGE}:9: `main` is not in {CODE}"]),
         (PAGE, ", MoreLaws.antt", ", Most.antt",
          [f"{PAGE}:13: there is no crates/low/proofs/Most.antt",
@@ -157,7 +156,7 @@ WRONG = {
         (PAGE, "`adds_nothing`", "`adds_little`", [f"{PAGE}:23: `adds_little` is defined nowhere under crates/"]),
     ],
     "ways back": [
-        (PROOF, "c .before .before\n", "c .before .before .before\n", [f"{PROOF}:10: a way back of 5 steps without a name"]),
+        (PROOF, ".before.args\n", ".before.before.args\n", [f"{PROOF}:10: a way back of 5 steps without a name"]),
         (PROOF, "-- ---- needs\n", "-- ---- others\n", [f"{PROOF}:5: a way back of 5 steps without a name"]),
     ],
     "lines": [
@@ -165,12 +164,12 @@ WRONG = {
     ],
     "imports": [
         (LAWS, "refl,", "refl,\n  sym,", [f"{LAWS}:5: imports `sym` and does not use it"]),
-        (LAWS, "{ℕ, _+_}", "{ℕ, _+_, _*_}", [f"{LAWS}:6: imports `_*_` and does not use it"]),
-        (LAWS, "{ℕ, _+_}", "{ℕ, _+_, known}", [f"{LAWS}:6: imports `known` and does not use it"]),
+        (LAWS, "{ℕ, ◌+◌}", "{ℕ, ◌+◌, ◌*◌}", [f"{LAWS}:6: imports `◌*◌` and does not use it"]),
+        (LAWS, "{ℕ, ◌+◌}", "{ℕ, ◌+◌, known}", [f"{LAWS}:6: imports `known` and does not use it"]),
         (LAWS, "{map,", "{map, map,", [f"{LAWS}:7: imports `map` a second time"]),
-        (LAWS, "(a before refl)", "refl", [f"{LAWS}:7: imports `_before_` and does not use it"]),
-        (MORE, "_+_}\n", "_+_}\nuse lib.More as more\n", [f"{MORE}:3: imports `more` and does not use it"]),
-        (CODE, "{_≡_}", "{_≡_, add}", [f"{CODE}:2: imports `add` and does not use it"]),
+        (LAWS, "(a before refl)", "refl", [f"{LAWS}:7: imports `◌before◌` and does not use it"]),
+        (MORE, "◌+◌}\n", "◌+◌}\nuse lib.More as more\n", [f"{MORE}:3: imports `more` and does not use it"]),
+        (CODE, "{◌≡◌}", "{◌≡◌, add}", [f"{CODE}:2: imports `add` and does not use it"]),
         (TOP, "use low::Stamp;", "use low::Stamp;\nuse low::add;", [f"{TOP}:3: imports `add` and does not use it"]),
     ],
     "functions": [
@@ -252,21 +251,21 @@ class Fixes(Small):
 
     def test_imports_taken_out(self):
         self.change(LAWS, "refl,", "refl,\n  sym,")
-        self.change(MORE, "{ℕ, _+_}\n", "{zero, ℕ, _+_, suc}\nuse lib.More as more\nuse lib.List.{any, all}\n")
-        self.change(CODE, "{_≡_};", "{_≡_, add};\nghost use lib.List.{any};")
+        self.change(MORE, "{ℕ, ◌+◌}\n", "{zero, ℕ, ◌+◌, suc}\nuse lib.More as more\nuse lib.List.{any, all}\n")
+        self.change(CODE, "{◌≡◌};", "{◌≡◌, add};\nghost use lib.List.{any};")
         self.change(TOP, "use low::Stamp;", "use low::Stamp;\nuse low::add;")
         self.assertEqual(self.lint("--fix-imports"), ([], 0))
         for path in (LAWS, MORE, CODE, TOP):
             self.assertEqual(self.text(path), RIGHT[path])
 
     def test_edits_told(self):
-        self.change(MORE, "_+_}", "_+_, _*_}")
+        self.change(MORE, "◌+◌}", "◌+◌, ◌*◌}")
         self.put("crates/low/must-fail/twice.edit",
                  "# twice\nfile: proofs/MoreLaws.antt\nold: one-more a = a + 1\nnew: one-more a = a * 2\n"
-                 "old: {ℕ, _+_, _*_}\nnew: {ℕ, _+_, _*_, _^_}\n")
+                 "old: {ℕ, ◌+◌, ◌*◌}\nnew: {ℕ, ◌+◌, ◌*◌, ◌^◌}\n")
         self.assertEqual(self.lint("--fix-imports"), (
             [f"crates/low/must-fail/twice.edit:5: quotes what {MORE} no longer has",
-             f"crates/low/must-fail/twice.edit:3: uses `_*_`, which {MORE} no longer imports"], 1))
+             f"crates/low/must-fail/twice.edit:3: uses `◌*◌`, which {MORE} no longer imports"], 1))
 
 
 def main():

@@ -11,8 +11,8 @@ ENDS = r'\s(){};,@"«»'
 NAME = rf"[^{ENDS}.]+"
 
 HIDDEN = re.compile(rf'"(?:\\.|[^"\\])*"|(?<![^{ENDS}.])--[^\n]*|\{{-.*?-\}}', re.S)
-# `x` in `record { x = 1; .. }` and in `f {x = 1}` is a label, whatever else has that name.
-LABEL = re.compile(rf"(?<=[{{;])\s*{NAME}(?=\s+=\s)")
+# `x` in `record { x = 1; .. }`, in `record { x : T; .. }` and in `f {x = 1}` is a label, whatever else has that name.
+LABEL = re.compile(rf"(?<=[{{;])\s*{NAME}(?=\s+[=:]\s)")
 PATH = re.compile(rf"(?<![^{ENDS}])({NAME})((?:\.{NAME})*)")
 # the part after `use` in an import line
 BROUGHT = rf"(?P<module>[^\s{{;]+?)(?:\.\{{(?P<names>[^}}]*)\}}| +as +(?P<alias>{NAME}))?"
@@ -33,7 +33,7 @@ class Import(NamedTuple):
 
 
 class Word(NamedTuple):
-    """A name that stands in a text, and the members behind it, as `.Need-x` in `tie.Need-x`."""
+    """A name that stands in a text, and the members behind it, as `.returns` in `goal.returns`."""
     name: str
     members: str
     line: int
@@ -78,15 +78,15 @@ def words(text):
 
 
 def spelled(found):
-    """How the names are spelled; `_+_` and `_+` are spellings of `+` too."""
+    """How the names are spelled; `◌+◌` and `◌+` are spellings of `+` too."""
     names = {word.name for word in found}
-    return names | {name.strip("_") for name in names}
+    return names | {name.strip("◌") for name in names}
 
 
 def stands(name, spellings):
     """Whether a name is among the spellings; an operator is where its visible parts are."""
-    shown = [part for part in name.split("_") if part]
-    return name in spellings or ("_" in name and shown != [] and spellings.issuperset(shown))
+    shown = [part for part in name.split("◌") if part]
+    return name in spellings or ("◌" in name and shown != [] and spellings.issuperset(shown))
 
 
 def item_of(module, text, line):

@@ -9,6 +9,7 @@ from checks.tree import line_at
 HIDDEN = re.compile(r"""b?"(?:\\.|[^"\\])*"|b?'(?:\\.[^']*|[^'\\])'|//[^\n]*""")
 GHOST_USE = re.compile(rf"^ *ghost use +{antt.BROUGHT} *;", re.M)
 USE = re.compile(r"^ *use +(?P<path>[\w:]+)(?: +as +(?P<alias>\w+))? *;", re.M)
+TACTIC = re.compile(r"#!?\[tactic\(([^\]]*)\)\]")
 CLAUSE = re.compile(r"\b(?:requires|ensures|ghost +\w+)\b[^{;()]*\{")
 DECLARED = re.compile(r'^( *)(?:pub +)?(extern +)?(fn|const|struct|enum) +(\w+)')
 OWNER = re.compile(r"^impl +(\w+)")
@@ -67,16 +68,27 @@ def halves(text):
     return Halves("".join(code) + text[done:], "".join(ghost))
 
 
+def named_to_tactics(text, crate):
+    """What the attributes name for the tactics, as its module and its name: `index.proofs.ChainLaws` and `kept` for
+    `using(crate::proofs::ChainLaws::kept)` in the crate index."""
+    for attribute in TACTIC.findall(plain(text)):
+        for path in re.findall(r"\w+(?:::\w+)+", attribute):
+            module, _, name = re.sub(r"^crate::", f"{crate}::", path).rpartition("::")
+            yield module.replace("::", "."), name
+
+
 def ghost_imports(text):
     """What the `ghost use` lines of a file bring in."""
     return antt.imports(plain(text), GHOST_USE)
 
 
 def code_imports(text):
-    """What the `use` lines of a file bring in."""
+    """What the `use` lines of a file bring in, but for std's: its traits are used with no name, by their methods."""
     found = []
     text = plain(text)
     for use in USE.finditer(text):
+        if use.group("path").startswith("std::"):
+            continue
         module, _, origin = use.group("path").rpartition("::")
         found.append(antt.Import(module, origin, use.group("alias") or origin, line_at(text, use.start())))
     return found

@@ -42,9 +42,10 @@ class Tree:
 
     @lru_cache(maxsize=None)
     def files(self, folder, *endings):
-        """The paths of the files under a folder whose names end so, in order."""
+        """The paths of the files under a folder whose names end so, in order. What rt made, in out/, is none of them."""
         found = []
-        for place, _, names in os.walk(os.path.join(self.root, folder)):
+        for place, folders, names in os.walk(os.path.join(self.root, folder)):
+            folders[:] = [name for name in folders if name != "out"]
             inside = os.path.relpath(place, self.root).replace(os.sep, "/")
             found += [f"{inside}/{name}" for name in names if name.endswith(endings)]
         return sorted(found)

@@ -15,9 +15,8 @@ def module_at(path):
 
 
 def module_named(name):
-    """The same for a module's name in an import, `Rattle·index·proofs.proofs.ChainLaws` in its own crate and
-    `Rattle·index.proofs.ChainLaws` in others."""
-    return re.sub(r"^Rattle·(\w+)(?:·\w+)?\.", r"\1.", name)
+    """The same for a module's name in an import, `Rattle.index.proofs.ChainLaws`."""
+    return re.sub(r"^Rattle\.", "", name)
 
 
 def cited_by(brought, words):
@@ -26,7 +25,7 @@ def cited_by(brought, words):
     behind = defaultdict(set)
     for word in words:
         behind[word.name].add(word.members.split(".")[1] if word.members else "")
-        if word.name.startswith("Rattle·"):
+        if word.name == "Rattle":
             module, _, name = (word.name + word.members).rpartition(".")
             yield module_named(module), name
     for one in brought:
@@ -45,6 +44,7 @@ def cited(tree):
     for path in tree.files("crates", ".rt"):
         text = tree.text(path)
         found.update(cited_by(rattle.ghost_imports(text), antt.words(rattle.halves(text).ghost)))
+        found.update(rattle.named_to_tactics(text, path.split("/")[1]))
     return found
 
 
@@ -52,14 +52,14 @@ def lines_of(words):
     """For each spelling, the lines that it stands in."""
     found = defaultdict(list)
     for word in words:
-        for spelling in {word.name, word.name.strip("_")}:
+        for spelling in {word.name, word.name.strip("◌")}:
             found[spelling].append(word.line)
     return found
 
 
 def cited_at_home(one, lines):
     """Whether a definition is cited in its own file, outside its own lines."""
-    shown = [part for part in one.name.split("_") if part]
+    shown = [part for part in one.name.split("◌") if part]
     return all(any(not one.line <= line <= one.last for line in lines[part]) for part in shown)
 
 
