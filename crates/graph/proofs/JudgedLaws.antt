@@ -1,7 +1,7 @@
 -- The two answers. If all nodes are taken, what stands in the order is the theory's order. If not, none of those left can be taken, so the walk among
 -- them is closed: the part found is not empty, its nodes are among those left, and turned it is the theory's cycle.
 -- Assumes nothing.
-use Prim.Native.Nat.{ℕ, ◌+◌, ◌-◌, ◌*◌, ◌≤◌, ◌<◌}
+use Prim.Native.Nat.{ℕ, ◌-◌, ◌≤◌, ◌<◌}
 use native.Mathlib.Omega.{arith}
 use mathlib.Core.Path.{◌≡◌, refl, sym, ◌∙◌, ap, subst}
 use mathlib.Core.Logic.{◌≢◌}
@@ -17,7 +17,7 @@ use Rattle.log_format.specs.Bytes.{splice}
 use Rattle.graph_theory.specs.Graph.{Decides, Cycle}
 use Rattle.graph_theory.specs.Taking.{TakesAny, take_all}
 use Rattle.graph_theory.specs.Walking.{walked, smallest_first}
-use Rattle.graph_theory.specs.Verdict.{Verdict, accepted, cycle, judge, verdict_of}
+use Rattle.graph_theory.specs.Verdict.{accepted, cycle, judge, verdict_of}
 use Rattle.graph_theory.specs.Standing.{renamed}
 use Rattle.graph_theory.proofs.TakingLaws.{takes_any, taken_in, left_stuck, left_rising, take_all_rule}
 use Rattle.graph_theory.proofs.WalkingLaws.{walks_cycle, walked_rule}
@@ -26,7 +26,6 @@ use Rattle.taking.specs.Taken.{Taken}
 use Rattle.walking.specs.Walked.{part_of, Walked}
 use Rattle.graph.specs.Answer.{AllBelow, Turned, Answered}
 use Rattle.walking.specs.declared.Span.{Span}
-use Rattle.graph.specs.declared.Found.{Found}
 use Rattle.graph.specs.declared.Found.TheVariants.{Accepted, Cycle as Ring}
 use Rattle.taking.proofs.NodesLaws.{index_below, up_from_rising, left_in}
 use Rattle.taking.proofs.TakenLaws.{empty}
