@@ -1,24 +1,21 @@
 -- The answers in their order, one law for each way out of the checker.
 -- Assumes nothing.
 use Prim.Native.Nat.{ℕ, ◌*◌, ◌≤◌, ◌<◌}
-use mathlib.Core.Path.{◌≡◌, refl, sym, ap, ◌∙◌}
-use mathlib.Core.List.{List, [], ◌∷◌}
-use mathlib.Core.Bool.{Bool, true, false, cond}
-use lib.Dec.{ltb}
+use mathlib.Core.Path.{◌≡◌, refl, sym}
+use mathlib.Core.List.{List, []}
+use mathlib.Core.Bool.{true, false}
 use lib.ListN.{length}
 use borrow.Author.Tests.{lt-ltb, le-ltb}
 use Rattle.log_format.specs.Bytes.{splice}
 use Rattle.log_format.specs.Events.{Event}
 use Rattle.history_rules.specs.WellFormed.{count_commits}
-use Rattle.history_rules.specs.History.{History, passed, refused, history_of}
-use Rattle.graph_theory.specs.Verdict.{Verdict, accepted, cycle, stamps_of}
+use Rattle.history_rules.specs.History.{passed, refused, history_of}
 use Rattle.serial_theory.specs.Judged.{verdict}
 use Rattle.order_rules.specs.Fields.{vs_of}
 use Rattle.order_rules.specs.Reading.{fields_of}
 use Rattle.order_rules.specs.Right.{right_order}
-use Rattle.checker_rules.specs.declared.Checked.{Checked}
-use Rattle.checker_rules.specs.declared.Checked.TheVariants.{Accepted, Cycle, Refused}
-use Rattle.checker_rules.specs.Answers.{Answer, no, judged, answer_by, answer_for, stamps_for, checked_of, CheckIs}
+use Rattle.checker_rules.specs.declared.Checked.TheVariants.{Refused}
+use Rattle.checker_rules.specs.Answers.{no, judged, answer_for, CheckIs}
 
 -- a splice of nothing changes nothing
 pub splice_none : (b : List ℕ) → splice b 0 [] ≡ b

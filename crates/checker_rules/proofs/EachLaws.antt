@@ -3,8 +3,8 @@
 -- Assumes nothing.
 use Prim.Native.Nat.{ℕ, ◌*◌, ◌^◌, ◌≤◌, ◌<◌}
 use native.Mathlib.Omega.{arith}
-use mathlib.Core.Path.{◌≡◌, refl, sym, subst}
-use mathlib.Core.List.{List, [], ◌∷◌, map}
+use mathlib.Core.Path.{◌≡◌, refl, subst}
+use mathlib.Core.List.{List}
 use mathlib.Core.Bool.{Bool, true, false, cond}
 use lib.Dec.{ltb}
 use lib.ListN.{length}
@@ -12,7 +12,7 @@ use borrow.Author.Tests.{ltb-false}
 use Rattle.lists.specs.Member.{◌∈◌}
 use Rattle.lists.proofs.OrderLaws.{in_nil}
 use Rattle.log_format.specs.Bytes.{Bytes}
-use Rattle.log_format.specs.Events.{Event, event_of}
+use Rattle.log_format.specs.Events.{Event}
 use Rattle.log_format.specs.Told.{Done}
 use Rattle.log_format.proofs.WholeLaws.{read_good}
 use Rattle.history_rules.specs.WellFormed.{most_committed, count_commits, WellFormed}

@@ -12,7 +12,7 @@ use Rattle.log_format.specs.declared.Place.{Place}
 use Rattle.log_format.proofs.StampBytesLaws.{length-stamp_bytes}
 use Rattle.log_format.proofs.AppendLaws.{length-splice, splice_other}
 use Rattle.graph_theory.specs.Verdict.{accepted, cycle}
-use Rattle.checker_rules.specs.Answers.{Answer, no, judged, answer_for, stamps_for, checked_of, checked_number, CheckIs, PanelIs}
+use Rattle.checker_rules.specs.Answers.{Answer, no, judged, answer_for, stamps_for, checked_of, CheckIs, PanelIs}
 use Rattle.checker_rules.specs.Orders.{OrderIs}
 use Rattle.checker_rules.specs.declared.Checked.{Checked}
 use Rattle.checker_rules.specs.declared.Checked.TheVariants.{Accepted, Cycle, Refused}

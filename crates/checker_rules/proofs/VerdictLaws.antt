@@ -2,8 +2,8 @@
 -- cycle, and then a serial order; else a cycle.
 -- Assumes nothing.
 use Prim.Native.Nat.{ℕ, ◌*◌, ◌≤◌}
-use mathlib.Core.Path.{◌≡◌, refl, sym, ap, ◌∙◌, subst}
-use mathlib.Core.List.{List, [], ◌∷◌}
+use mathlib.Core.Path.{◌≡◌, ◌∙◌}
+use mathlib.Core.List.{List}
 use mathlib.Core.Logic.{◌↔◌}
 use lib.ListN.{length}
 use Rattle.log_format.specs.Bytes.{Bytes}
@@ -11,13 +11,11 @@ use Rattle.log_format.specs.Events.{Event}
 use Rattle.history_rules.specs.WellFormed.{WellFormed, count_commits}
 use Rattle.history_rules.specs.History.{passed, history_of}
 use Rattle.history_rules.proofs.HistoryLaws.{passed_well}
-use Rattle.graph_theory.specs.Verdict.{Verdict, accepted, cycle, Accepts}
-use Rattle.serial_theory.specs.Edges.{VersionOrder}
+use Rattle.graph_theory.specs.Verdict.{Accepts}
 use Rattle.serial_theory.specs.Judged.{verdict, CycleOf, Judged}
 use Rattle.serial_theory.proofs.JudgedLaws.{checked_verdict}
 use Rattle.order_rules.specs.Fields.{vs_of}
-use Rattle.order_rules.specs.Reading.{fields_of}
-use Rattle.order_rules.specs.Right.{right_order, RightOrder}
+use Rattle.order_rules.specs.Right.{RightOrder}
 use Rattle.order_rules.proofs.RightLaws.{right_passes, right_fields}
 use Rattle.checker_rules.specs.Answers.{judged, answer_for}
 use Rattle.checker_rules.proofs.CheckLaws.{judged-answer}

@@ -1,6 +1,6 @@
 -- The checker's answer for a log, a version order and a buffer: the page's codes in their order, their numbers, and the stamps written.
 -- Assumes nothing.
-use Rattle.std.specs.Prelude.{ℕ, ◌+◌, ◌*◌, ◌≤◌, ◌<◌, ◌≡◌, List, [], ◌∷◌, cond, ltb, length}
+use Rattle.std.specs.Prelude.{ℕ, ◌+◌, ◌*◌, ◌≤◌, ◌<◌, ◌≡◌, List, [], cond, ltb, length}
 use Rattle.log_format.specs.Bytes.{stamp_bytes, splice}
 use Rattle.history_rules.specs.WellFormed.{count_commits}
 use Rattle.history_rules.specs.History.{History, passed, refused, history_of}

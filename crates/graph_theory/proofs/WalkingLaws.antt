@@ -22,7 +22,7 @@ use Rattle.lists.proofs.OrderLaws.{in_nil, in_tail, length_without, of_without}
 use Rattle.lists.proofs.RisingLaws.{first-least}
 use Rattle.graph_theory.specs.Graph.{Decides, Path, Closed, Cycle}
 use Rattle.graph_theory.specs.Taking.{NoneClear}
-use Rattle.graph_theory.specs.Walking.{up_to, Turned, Predecessor, Walks, repeats, steps, least, smallest_first, predecessor, step, walk, walked, cycle_of}
+use Rattle.graph_theory.specs.Walking.{up_to, Turned, Predecessor, Walks, repeats, steps, smallest_first, predecessor, step, walk, walked, cycle_of}
 use Rattle.graph_theory.proofs.TakingLaws.{stuck_edge}
 use Rattle.graph_theory.proofs.TurningLaws.{smallest_first_turned}
 

@@ -1,20 +1,20 @@
 -- A refusal's number is a place of the log, or 0: so it is below 65,536. A bad field and a dangling read stand where bytes are left, and a log
 -- that has its header has at most 65,536.
 -- Assumes nothing.
-use Prim.Native.Nat.{ℕ, ◌+◌, ◌≤◌, ◌<◌}
+use Prim.Native.Nat.{ℕ, ◌+◌, ◌<◌}
 use native.Mathlib.Omega.{arith}
-use mathlib.Core.Path.{◌≡◌, refl, sym, ap, ◌∙◌}
-use mathlib.Core.List.{List, [], ◌∷◌, ◌++◌}
+use mathlib.Core.Path.{◌≡◌, ap, ◌∙◌}
+use mathlib.Core.List.{List, ◌∷◌, ◌++◌}
 use lib.ListN.{length, length-append}
 use Rattle.log_format.specs.Bytes.{Bytes}
 use Rattle.log_format.specs.Fields.{encode}
-use Rattle.log_format.specs.Whole.{max_log, records, log_read, write_all, log_of}
+use Rattle.log_format.specs.Whole.{max_log, write_all, log_of}
 use Rattle.log_format.specs.Events.{Event}
 use Rattle.log_format.specs.declared.Record.{Record}
 use Rattle.log_format.proofs.DecodeCases.{long}
 use Rattle.log_format.proofs.WholeLaws.{read-write}
 use Rattle.history_rules.specs.History.{refused, history_of}
-use Rattle.history_rules.specs.Answers.{BadAt, no_record, no_right, FirstDangling}
+use Rattle.history_rules.specs.Answers.{BadAt, no_record, no_right}
 use Rattle.history_rules.proofs.FoundAnswers.{read_headed}
 use Rattle.history_rules.proofs.GivenAnswers.{write_all-append}
 use Rattle.history_rules.proofs.HistoryLaws.{refusal}

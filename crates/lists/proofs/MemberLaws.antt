@@ -1,9 +1,9 @@
 -- Membership in filtered lists.
 -- Assumes nothing.
-use mathlib.Core.Path.{◌≡◌, sym, subst}
+use mathlib.Core.Path.{sym, subst}
 use mathlib.Core.List.Memᴰ
 use mathlib.Core.List.{List, [], ◌∷◌, filter}
-use mathlib.Core.Logic.{◌⊎◌, inl, inr}
+use mathlib.Core.Logic.{inl, inr}
 use Rattle.lists.specs.Member.{◌∈◌}
 use Rattle.lists.proofs.ChoiceLaws.{ite_by}
 

@@ -1,7 +1,7 @@
 -- Lists without doubles, and which of two stands first. By recursion on the list; where a list is split at an element, what stands before
 -- that element is in the first part and what stands after it in the second.
 -- Assumes nothing.
-use Prim.Native.Nat.{ℕ, suc, ◌+◌, ◌≤◌}
+use Prim.Native.Nat.{ℕ, suc, ◌≤◌}
 use native.Mathlib.Omega.{arith}
 use mathlib.Core.Path.{◌≡◌, refl, sym, ◌∙◌, ap, subst}
 use mathlib.Core.Logic.{◌⊎◌, inl, inr}

@@ -4,10 +4,10 @@
 use Prim.Native.Nat.{ℕ, zero, suc, ◌+◌, ◌≤◌, ◌<◌}
 use native.Mathlib.Omega.{arith}
 use mathlib.Core.Path.{◌≡◌, refl, sym, ◌∙◌, ap}
-use mathlib.Core.Logic.{◌⊎◌, inl, inr, ◌↔◌, ◌≢◌}
+use mathlib.Core.Logic.{◌⊎◌, inl, inr, ◌↔◌}
 use mathlib.Core.List.Memᴰ
 use mathlib.Core.List.{List, [], ◌∷◌, ◌++◌}
-use mathlib.Core.Bool.{Bool, true, false, cond, not}
+use mathlib.Core.Bool.{Bool, true, false, cond}
 use lib.Dec.{eqb}
 use lib.ListN.{length, get_or}
 use borrow.Author.Tests.{eq-eqb, ne_eqb, eqb-true, eqb-false}
@@ -16,7 +16,7 @@ use Rattle.lists.specs.Tests.{any}
 use Rattle.lists.specs.Order.{Distinct, Before}
 use Rattle.lists.proofs.OrderLaws.{in_nil, in_tail, before_left, before_right}
 use Rattle.lists.proofs.PlaceLaws.{at_in}
-use Rattle.lists.proofs.TestLaws.{any_in, any_not, not_passed}
+use Rattle.lists.proofs.TestLaws.{any_in, any_not}
 use Rattle.order_rules.specs.Ranks.{rank_from, rank_in}
 
 module _ (k : ℕ) where

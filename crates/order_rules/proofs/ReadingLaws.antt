@@ -5,10 +5,8 @@ use Prim.Native.Nat.{ℕ, zero, suc, ◌+◌, ◌*◌, ◌-◌, ◌/◌, ◌%◌
 use native.Mathlib.Nat.{add-zero, add_assoc}
 use native.Mathlib.Omega.{arith}
 use mathlib.Core.Path.{◌≡◌, refl, sym, ap, ◌∙◌, subst}
-use mathlib.Core.Logic.{◌⊎◌, inl, inr}
 use mathlib.Core.List.Memᴰ
-use mathlib.Core.List.{List, [], ◌∷◌, ◌++◌, append_assoc}
-use mathlib.Core.Bool.{Bool, true, false, cond}
+use mathlib.Core.List.{List, [], ◌∷◌, ◌++◌}
 use mathlib.Core.Option.{Option, some, none}
 use lib.Dec.{leb, ltb, eqb}
 use lib.ListN.{length, get_or, drop, length-append, length-drop, drop_of_length-le}
@@ -22,8 +20,8 @@ use Rattle.log_format.specs.Bytes.{Bytes, num2, num4, bytes4, stamp_bytes}
 use Rattle.log_format.specs.Fields.{body_len}
 use Rattle.log_format.proofs.StampBytesLaws.{length-stamp_bytes}
 use Rattle.log_format.proofs.RoundTrip.{back, forth, body_is, body_inv}
-use Rattle.order_rules.specs.Fields.{Field, field, bytes2, body_of, field_of, order_of, Filled, FieldFits, Fits}
-use Rattle.order_rules.specs.Reading.{bodied, found_at, stamps_at, next_at, before, after, fields_at, read_from, read_order, StandsAt}
+use Rattle.order_rules.specs.Fields.{Field, field, body_of, field_of, order_of, Filled, FieldFits, Fits}
+use Rattle.order_rules.specs.Reading.{found_at, stamps_at, next_at, before, after, fields_at, read_from, read_order, StandsAt}
 use Rattle.order_rules.specs.declared.Found.{Found}
 use Rattle.order_rules.specs.declared.Found.TheVariants.{Stamps, End, Bad}
 

@@ -3,30 +3,28 @@
 -- Assumes nothing.
 use Prim.Native.Nat.{ℕ, zero, suc, ◌≤◌, ◌<◌}
 use native.Mathlib.Omega.{arith}
-use mathlib.Core.Path.{◌≡◌, refl, sym, ap, ◌∙◌, subst}
-use mathlib.Core.Logic.{◌⊎◌, inl, inr, ◌↔◌}
+use mathlib.Core.Path.{◌≡◌, refl, sym, ◌∙◌, subst}
+use mathlib.Core.Logic.{inl, inr}
 use mathlib.Core.List.Memᴰ
 use mathlib.Core.List.{List, [], ◌∷◌, ◌++◌, reverse}
-use mathlib.Core.Bool.{Bool, true, false, cond, not, ◌&&◌, ◌||◌}
+use mathlib.Core.Bool.{Bool, true, false, cond, not, ◌||◌}
 use mathlib.Core.Option.{Option, some, none}
 use lib.Dec.{leb, eqb}
-use lib.ListN.{length}
 use borrow.Author.Tests.{le-leb, leb-true, eq-eqb, ne_eqb, eqb-true, eqb-false, not-true}
 use Rattle.lists.specs.Member.{◌∈◌, Rising}
-use Rattle.lists.specs.Order.{Distinct, Lists}
+use Rattle.lists.specs.Order.{Distinct}
 use Rattle.lists.specs.Tests.{any}
 use Rattle.lists.proofs.OrderLaws.{in_nil, in_tail}
-use Rattle.lists.proofs.TestLaws.{false_true, both_true, one_true, not_passed, any_true, any_false, any_not, in_any, any_in, differ, differs}
+use Rattle.lists.proofs.TestLaws.{false_true, both_true, not_passed, any_true, any_false, any_not, in_any, any_in, differ, differs}
 use Rattle.log_format.specs.Bytes.{Bytes}
 use Rattle.log_format.specs.Events.{Event}
-use Rattle.log_format.specs.Told.{Done}
 use Rattle.history_rules.specs.WellFormed.{most_item, WellFormed}
 use Rattle.history_rules.specs.Faults.{written}
-use Rattle.serial_theory.specs.Edges.{Version, VersionOrder}
+use Rattle.serial_theory.specs.Edges.{VersionOrder}
 use Rattle.serial_theory.specs.Judged.{committed}
 use Rattle.serial_theory.proofs.CommittedLaws.{committed_is}
-use Rattle.order_rules.specs.Fields.{Field, field, order_of, items, vs_of, Filled, Fits}
-use Rattle.order_rules.specs.Reading.{read_order, or_none, fields_of}
+use Rattle.order_rules.specs.Fields.{Field, field, items, vs_of, Filled}
+use Rattle.order_rules.specs.Reading.{read_order, fields_of}
 use Rattle.order_rules.specs.Right.{all_items, some_below, is_version, each_once, sound, missing, left_out, judged, right_by, right_order, RightOrder}
 use Rattle.order_rules.proofs.ReadingLaws.{read-written, written_read}
 use Rattle.order_rules.proofs.VersionLaws.{put_item, written_puts, version_is}

@@ -2,22 +2,22 @@
 -- Assumes nothing.
 use Prim.Native.Nat.{ℕ, zero, suc, ◌+◌, ◌≤◌, ◌<◌}
 use native.Mathlib.Omega.{arith}
-use mathlib.Core.Path.{◌≡◌, refl, sym, ap, ap₂, ◌∙◌}
+use mathlib.Core.Path.{◌≡◌, refl, ap}
 use mathlib.Core.List.{List, [], ◌∷◌, ◌++◌, reverse}
-use mathlib.Core.Bool.{Bool, true, false, cond, not, ◌&&◌, ◌||◌}
+use mathlib.Core.Bool.{Bool, true, false, ◌&&◌}
 use mathlib.Core.Option.{Option, some, none}
-use lib.Dec.{leb, eqb}
+use lib.Dec.{leb}
 use borrow.Author.Tests.{leb-true}
 use Rattle.lists.specs.Tests.{any}
 use Rattle.log_format.specs.Events.{Event}
 use Rattle.history_rules.specs.WellFormed.{most_item}
-use Rattle.history_rules.specs.Faults.{written, differ}
+use Rattle.history_rules.specs.Faults.{written}
 use Rattle.history_rules.specs.Held.{Holds, written_in}
 use Rattle.serial_theory.specs.Judged.{committed}
 use Rattle.order_rules.specs.Fields.{Field, field, order_of, vs_of}
 use Rattle.order_rules.specs.Reading.{read_order}
-use Rattle.order_rules.specs.Right.{all_items, some_below, is_version, each_once, sound, missing, left_out, judged, right_by, right_order}
-use Rattle.order_rules.specs.Timestamps.{with_field, fields_up, versions_by, fields_by, order_by, timestamp_versions, timestamp_order}
+use Rattle.order_rules.specs.Right.{all_items, some_below, each_once, sound, left_out, judged, right_by, right_order}
+use Rattle.order_rules.specs.Timestamps.{fields_up, versions_by, order_by, timestamp_versions, timestamp_order}
 
 module _ (wr wr' : ℕ → ℕ → ℕ) (same : (t x : ℕ) → x ≤ most_item → wr t x ≡ wr' t x) (nodes : List ℕ) where
   once_same : (x : ℕ) → x ≤ most_item → (seen ks : List ℕ) → each_once wr nodes x seen ks ≡ each_once wr' nodes x seen ks

@@ -1,11 +1,10 @@
 -- What writing an order leaves: on a refusal nothing is written; else the order stands in front, and no later byte is changed.
 -- Assumes nothing.
 use Prim.Native.Nat.{ℕ, ◌+◌, ◌≤◌, ◌<◌}
-use native.Mathlib.Nat.{zero-add}
 use native.Mathlib.Omega.{arith}
-use mathlib.Core.Path.{◌≡◌, refl, ◌∙◌}
+use mathlib.Core.Path.{◌≡◌, refl}
 use mathlib.Core.Logic.{inr}
-use mathlib.Core.List.{List, [], ◌∷◌, ◌++◌}
+use mathlib.Core.List.{List}
 use mathlib.Core.Bool.{Bool, true, false, cond}
 use lib.Dec.{leb}
 use lib.ListN.{length, take, drop, get_or}
@@ -14,7 +13,6 @@ use borrow.Author.Tests.{leb-true, le-leb, lt-leb}
 use Rattle.log_format.specs.Bytes.{splice}
 use Rattle.log_format.proofs.AppendLaws.{length-splice, splice_other}
 use Rattle.order_rules.specs.Timestamps.{Wrote}
-use Rattle.order_rules.specs.declared.Written.{Written}
 use Rattle.order_rules.specs.declared.Written.TheVariants.{Bytes, NoRoom}
 
 module _ (b e : List ℕ) where

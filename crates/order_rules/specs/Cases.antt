@@ -2,7 +2,7 @@
 -- Assumes nothing.
 use Rattle.std.specs.Prelude.{ℕ, ◌≡◌, List, [], ◌∷◌, ◌++◌, true, false}
 use Rattle.log_format.specs.Events.{Event, begins, writes, commits, aborts}
-use Rattle.order_rules.specs.Fields.{Field, field, order_of}
+use Rattle.order_rules.specs.Fields.{field, order_of}
 use Rattle.order_rules.specs.Right.{right_order}
 use Rattle.order_rules.specs.Timestamps.{timestamp_order}
 

@@ -246,7 +246,7 @@ module _ (m : Model) (es : List Event) (i : Invariant m es) (s : Sound m) where
           | inl e ↦ (new, put_new new m.held, sym e.1, sym e.0, sym e.2)
           | inr t ↦ (let y = i.kept n y w t h in (y.0, put_old new y.0 m.held y.1, y.2, y.3, y.4))
         ];
-        mark = λ w h. elim (of_put new w m.held h) [ 
+        mark = λ w h. elim (of_put new w m.held h) [
           | inl e ↦ subst (λ (z : Version). MarkOf z.item z.stamp z.mark (writes k x v ∷ es)) (sym e) ((λ n c g. absurd (unread n c g)), inl refl)
           | inr t ↦ i.mark w t
         ];

@@ -1,6 +1,6 @@
 -- What a state of the scheduler means, over lists, and the scheduler's rules.
 -- Assumes nothing.
-use Rattle.std.specs.Prelude.{ℕ, suc, ◌+◌, ◌≤◌, ◌<◌, max, ◌≡◌, ◌⊎◌, ◌≢◌, get_or, set, replicate}
+use Rattle.std.specs.Prelude.{ℕ, suc, ◌+◌, ◌<◌, max, ◌≡◌, ◌⊎◌, ◌≢◌, get_or, set, replicate}
 use mathlib.Core.List.{List, [], ◌∷◌, ◌++◌, filter, map}
 use Rattle.std.proofs.Math.Decide.{ℕ_discrete, dec_le, dec_lt}
 use Rattle.lists.specs.Choice.{pick, both, either, isnt}

@@ -1,0 +1,21 @@
+-- Each side of the test is one case of the definition's.
+-- Assumes nothing.
+use borrow.Author.Tests.{lt-ltb, le-ltb}
+use borrow.Author.Rules.{rules}
+use Rattle.sorted.proofs.is_at.Statement.{statement}
+use Rattle.sorted.proofs.is_at.Tie as tie
+
+mul-result : tie.Need-overflow-mul-result
+mul-result c = search rules
+
+shared-slice-read-result : tie.Need-shared-slice-read-result
+shared-slice-read-result c = search rules
+
+returns : tie.Need-returns
+returns c = rw (lt-ltb _ _ c.before.if1.true)
+
+returns-2 : tie.Need-returns-2
+returns-2 c = rw (le-ltb _ _ c.if1.false)
+
+pub is-at-spec : {M : Type 1} → statement M
+is-at-spec = tie.close (tie.spec mul-result shared-slice-read-result returns returns-2)

@@ -1,0 +1,14 @@
+-- `taking::one` meets its contract: by the two arms of its test.
+-- Assumes nothing.
+use borrow.Author.Tests.{eq-eqb, ne_eqb}
+use Rattle.taking.proofs.one.Statement.{statement}
+use Rattle.taking.proofs.one.Tie as tie
+
+returns : tie.Need-returns
+returns c = rw (eq-eqb _ _ c.if1.true)
+
+returns-2 : tie.Need-returns-2
+returns-2 c = rw (ne_eqb _ _ c.if1.false)
+
+pub one_spec : {M : Type 1} → statement M
+one_spec = tie.close (tie.spec returns returns-2)
