@@ -1,17 +1,12 @@
 -- A state passes the damage check exactly where it is the picture of a sound model within the room; on such states the meaning loses nothing.
 -- Assumes nothing.
 use Prim.Native.Nat.{ℕ, ◌≤◌}
-use mathlib.Core.Path.{◌≡◌, refl, sym, ap, ◌∙◌, subst}
-use mathlib.Core.Bool.{Bool, true, false}
-use mathlib.Core.List.{List}
+use mathlib.Core.Path.{◌≡◌, refl, sym, ap, subst}
+use mathlib.Core.Bool.{true}
 use Rattle.log_format.specs.Whole.{max_log}
 use Rattle.scheduler_rules.specs.Model.{Model}
 use Rattle.scheduler_rules.specs.Sound.{Sound}
-use Rattle.open_table.specs.Open.{stamps_of, table_of}
-use Rattle.open_table.specs.declared.OpenTable.{OpenTable}
 use Rattle.open_table.proofs.TableLaws.{stamps_of_table}
-use Rattle.version_columns.specs.Columns.{columns_of}
-use Rattle.version_columns.specs.declared.Versions.{Versions}
 use Rattle.version_columns.proofs.RowLaws.{versions_columns}
 use Rattle.decision.specs.declared.Core.{Core}
 use Rattle.decision.specs.Decided.{Sized}

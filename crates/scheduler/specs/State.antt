@@ -1,6 +1,6 @@
 -- What a state means, the state that a model makes, and when a state is damaged.
 -- Assumes nothing.
-use Rattle.std.specs.Prelude.{ℕ, ◌≤◌, ◌≡◌, Bool, List, [], length, replicate}
+use Rattle.std.specs.Prelude.{ℕ, ◌≤◌, ◌≡◌, Bool, [], length, replicate}
 use Rattle.scheduler_rules.specs.Model.{Model, max_open, max_versions}
 use Rattle.scheduler_rules.specs.Sound.{Sound}
 use Rattle.open_table.specs.Open.{table_of}
