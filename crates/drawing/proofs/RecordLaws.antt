@@ -4,19 +4,17 @@
 use Prim.Native.Nat.{ℕ, ◌≤◌, ◌<◌}
 use native.Mathlib.Omega.{arith}
 use mathlib.Core.Path.{◌≡◌, refl, sym, ◌∙◌, subst}
-use mathlib.Core.Logic.{◌⊎◌, inl, inr}
 use mathlib.Core.List.{List, ◌∷◌}
 use mathlib.Core.Bool.{Bool, true, false}
 use lib.Dec.{eqb, ltb}
 use lib.ListN.{get_or, take}
 use borrow.Author.Tests.{eqb-true, eqb-false, ltb-true, ltb-false}
-use denote.Enum.Declared.{tag_of}
 use Rattle.numbers.specs.Numbers.{max_item}
 use Rattle.lists.specs.Member.{◌∈◌}
-use Rattle.log_format.specs.contracts.Record as records
 use Rattle.log_format.specs.Events.{Event, reads, event_of}
 use Rattle.log_format.specs.Told.{Done}
 use Rattle.log_format.specs.declared.Record.{Record}
+use Rattle.log_format.specs.declared.Stamp.{Stamp}
 use Rattle.log_format.specs.declared.Record.TheVariants.{Begin, Read, Write, Commit, Abort}
 use Rattle.log_format.proofs.ToldLaws.{got_is}
 use Rattle.serial_theory.specs.Edges.{Regular, VersionOrder}
@@ -31,20 +29,16 @@ use Rattle.edges.proofs.DrawingLaws.{unfinished-read, edges_skip, edges_read}
 use Rattle.sorted.specs.Sorted.{Located}
 use Rattle.drawing.specs.Drawing.{DrewEvent}
 
--- the record's tag
-abbrev tag : Record → ℕ
-tag r = tag_of records.the_type r
+-- r is no read
+abbrev NoRead : Record → Type 0
+NoRead r = (k : Stamp) (x : ℕ) (j : Stamp) (v : ℕ) → r ≡ Read k x j v → ⊥
 
-no_read : (log : List Event) (vs : ℕ → List ℕ) (a b : ℕ) (r : Record) → (tag r ≡ 0) ⊎ ((tag r ≡ 2) ⊎ ((tag r ≡ 3) ⊎ (tag r ≡ 4)))
-    → by_read log vs a b (event_of r) ≡ false
-no_read log vs a b (Begin t) k = refl
-no_read log vs a b (Read t x j v) (inl e) = absurd (omega arith)
-no_read log vs a b (Read t x j v) (inr (inl e)) = absurd (omega arith)
-no_read log vs a b (Read t x j v) (inr (inr (inl e))) = absurd (omega arith)
-no_read log vs a b (Read t x j v) (inr (inr (inr e))) = absurd (omega arith)
-no_read log vs a b (Write t x v) k = refl
-no_read log vs a b (Commit t) k = refl
-no_read log vs a b (Abort t c) k = refl
+no_read : (log : List Event) (vs : ℕ → List ℕ) (a b : ℕ) (r : Record) → NoRead r → by_read log vs a b (event_of r) ≡ false
+no_read log vs a b (Begin t) n = refl
+no_read log vs a b (Read t x j v) n = absurd (n t x j v refl)
+no_read log vs a b (Write t x v) n = refl
+no_read log vs a b (Commit t) n = refl
+no_read log vs a b (Abort t c) n = refl
 
 -- a stamp that is none of the nodes is not committed
 not_done : (log : List Event) (vs : ℕ → List ℕ) (nodes rank : List ℕ) (count : ℕ) → Ranked log vs nodes rank count → (t : ℕ)
@@ -53,10 +47,10 @@ not_done log vs nodes rank count r t n d = n (subst (λ (l : List ℕ). t ∈ l)
 
 module _ (nodes rank : List ℕ) (count : ℕ) (m : List ℕ) where
   -- a record of another kind
-  pub other_drawn : (r : Record) → (tag r ≡ 0) ⊎ ((tag r ≡ 2) ⊎ ((tag r ≡ 3) ⊎ (tag r ≡ 4))) → DrewEvent nodes rank count (event_of r) m m
-  other_drawn r k = record {
+  pub other_drawn : (r : Record) → NoRead r → DrewEvent nodes rank count (event_of r) m m
+  other_drawn r n = record {
     size = refl;
-    edges = λ log vs part g vo rk i h. edges_skip log vs nodes count (event_of r) part m (λ a b. no_read log vs a b r k) h;
+    edges = λ log vs part g vo rk i h. edges_skip log vs nodes count (event_of r) part m (λ a b. no_read log vs a b r n) h;
   }
 
   module _ (k x j v : ℕ) where

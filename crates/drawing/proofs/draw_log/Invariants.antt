@@ -1,0 +1,12 @@
+-- The loop's invariant: the matrix has the edges of the events so far, and these with the ones still to come are those of the log. The measure is what is
+-- left of the bytes.
+use lib.ListN.{length}
+use Prim.Native.Nat.{◌-◌}
+use Rattle.drawing.proofs.WalkLaws.{Drawing}
+use Rattle.drawing.proofs.draw_log.Given as goal
+
+abbrev pub invariant-loop-r : goal.invariant-loop-r
+invariant-loop-r l = Drawing l.log l.nodes l.rank l.count l.mat l.at
+
+abbrev pub decreases-loop-r : goal.decreases-loop-r
+decreases-loop-r l = length l.log - l.at
