@@ -1,0 +1,14 @@
+-- 26 is decided before the loop. The loop's invariant: what is settled from the first field on is settled from the place on. The measure is what is left of
+-- the bytes.
+use Prim.Native.Nat.{◌-◌}
+use lib.ListN.{length}
+use Rattle.history_rules.specs.Held.{stage_in}
+use Rattle.index.specs.Index.{table_of}
+use Rattle.history.proofs.SettleLaws.{Settling}
+use Rattle.history.proofs.settle.Given as goal
+
+abbrev pub invariant-loop-r : goal.invariant-loop-r
+invariant-loop-r l = Settling l.log (stage_in (table_of l.map)) l.at
+
+abbrev pub decreases-loop-r : goal.decreases-loop-r
+decreases-loop-r l = length l.log - l.at

@@ -1,0 +1,12 @@
+-- The loop's invariant: the scan from the first field on is the scan from the place on, after the events that the map has. The measure is what is left of
+-- the bytes.
+use Prim.Native.Nat.{◌-◌}
+use lib.ListN.{length}
+use Rattle.history.proofs.WalkLaws.{Walking}
+use Rattle.history.proofs.walk.Given as goal
+
+abbrev pub invariant-loop-r : goal.invariant-loop-r
+invariant-loop-r l = Walking l.log l.map (length l.fn.map) l.at l.k
+
+abbrev pub decreases-loop-r : goal.decreases-loop-r
+decreases-loop-r l = length l.log - l.at
