@@ -16,7 +16,7 @@ use Rattle.scheduler_rules.specs.declared.Reply.{Reply}
 use Rattle.scheduler_rules.proofs.PageRun.{cases_g_to_j}
 use Rattle.scheduler_rules.proofs.RunLaws.{play_leads}
 use Rattle.scheduler.specs.declared.State.{State}
-use Rattle.scheduler.specs.State.{abs, undamaged, Full}
+use Rattle.scheduler.specs.State.{abs, Full}
 use Rattle.scheduler.specs.Calls.{room_of, reply_to}
 use Rattle.scheduler_laws.specs.InTurn.{calls}
 use Rattle.scheduler_laws.proofs.InTurnLaws.{plays, reply_is}
