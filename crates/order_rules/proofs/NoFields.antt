@@ -1,7 +1,8 @@
--- What the `else` of a `let else` over what was found knows, a tag, says that no field was.
+-- What the `else` of a `let else` over what was found knows, by tag or by form, says that no field was.
 -- Assumes nothing.
+use Prim.Native.Nat.{ℕ}
 use native.Mathlib.Omega.{arith}
-use mathlib.Core.Path.{◌≡◌}
+use mathlib.Core.Path.{◌≡◌, refl}
 use mathlib.Core.Logic.{◌⊎◌, inl, inr}
 use denote.Enum.Declared.{tag_of}
 use Rattle.order_rules.specs.contracts.Found as found
@@ -14,3 +15,8 @@ no_stamps (Stamps x n) (inl e) = omega arith
 no_stamps (Stamps x n) (inr e) = omega arith
 no_stamps End k = tt
 no_stamps Bad k = tt
+
+pub not_stamps : (d : Found) → ((x n : ℕ) → d ≡ Stamps x n → ⊥) → NoStamps d
+not_stamps (Stamps x n) h = h x n refl
+not_stamps End h = tt
+not_stamps Bad h = tt

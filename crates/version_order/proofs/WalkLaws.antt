@@ -12,17 +12,16 @@ use mathlib.Core.Option.{Option, some, none}
 use lib.Dec.{eqb, leb}
 use lib.ListN.{length, take, get_or}
 use lib.Seq.{length-take-le, get_or-take}
-use borrow.Author.Tests.{eq-eqb, ne_eqb, eqb-true, eqb-false, le-leb, lt-leb, not-true}
+use borrow.Author.Tests.{eq-eqb, ne_eqb, eqb-true, eqb-false, le-leb, lt-leb}
 use Rattle.lists.specs.Member.{◌∈◌}
-use Rattle.lists.specs.Tests.{any}
 use Rattle.lists.proofs.OrderLaws.{in_nil}
 use Rattle.lists.proofs.PlaceLaws.{at_in, in_at}
-use Rattle.lists.proofs.TestLaws.{false_true, both_true, same_test, not_passed, differ, differs}
+use Rattle.lists.proofs.TestLaws.{false_true, differs}
 use Rattle.log_format.specs.Bytes.{Bytes}
 use Rattle.history_rules.specs.WellFormed.{most_item}
 use Rattle.order_rules.specs.Fields.{Field, field, items, vs_of}
-use Rattle.order_rules.specs.Reading.{found_at, stamps_at, next_at, before, read_from, read_order, or_none, fields_of, NoStamps, StandsAt}
-use Rattle.order_rules.specs.Right.{some_below, each_once, sound, left_out, judged, right_by}
+use Rattle.order_rules.specs.Reading.{found_at, stamps_at, next_at, before, read_from, read_order, fields_of, NoStamps, StandsAt}
+use Rattle.order_rules.specs.Right.{some_below, sound, left_out, judged, right_by}
 use Rattle.order_rules.specs.Ranks.{rank_from, rank_in, rank_at, Ranks}
 use Rattle.order_rules.specs.declared.Found.{Found}
 use Rattle.order_rules.specs.declared.Found.TheVariants.{Stamps, End, Bad}

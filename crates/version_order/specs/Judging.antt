@@ -1,6 +1,6 @@
 -- What the parts of the judging of a version order answer and leave. A cell is the place of a node's rank for an item: 64 cells a node.
 -- Assumes nothing.
-use Rattle.std.specs.Prelude.{ℕ, ◌+◌, ◌-◌, ◌*◌, ◌/◌, ◌%◌, ◌≤◌, ◌<◌, ◌≡◌, ◌≢◌, List, [], Bool, true, false, cond, not, ◌&&◌, eqb, length, take, get_or, set}
+use Rattle.std.specs.Prelude.{ℕ, ◌-◌, ◌*◌, ◌/◌, ◌%◌, ◌≤◌, ◌<◌, ◌≡◌, ◌≢◌, List, [], Bool, true, false, cond, not, ◌&&◌, eqb, length, take, get_or, set}
 use Rattle.numbers.specs.Numbers.{items}
 use Rattle.lists.specs.Member.{Rising}
 use Rattle.history_rules.specs.WellFormed.{most_item}
