@@ -1,13 +1,12 @@
 -- Writing bytes piece by piece: what is written and what is left are always the whole, and each piece follows the one before it. The pieces of an item's
 -- stamps are those of the nodes that wrote it; the pieces of an order are its items' fields.
 -- Assumes nothing.
-use Prim.Native.Nat.{ℕ, zero, suc, ◌+◌, ◌-◌, ◌*◌, ◌≤◌, ◌<◌}
-use native.Mathlib.Nat.{add-zero, add_assoc}
+use Prim.Native.Nat.{ℕ, suc, ◌+◌, ◌-◌, ◌≤◌, ◌<◌}
+use native.Mathlib.Nat.{add-zero}
 use native.Mathlib.Omega.{arith}
-use mathlib.Core.Path.{◌≡◌, refl, sym, ap, ◌∙◌, subst}
+use mathlib.Core.Path.{◌≡◌, refl, sym, ap, ◌∙◌}
 use mathlib.Core.List.{List, [], ◌∷◌, ◌++◌, append_assoc, append-nil}
 use mathlib.Core.Bool.{Bool, true, false, cond}
-use lib.Dec.{eqb}
 use lib.ListN.{length, take, drop, get_or, length-append, take-append-drop}
 use lib.Seq.{length-take-le, get_or-take, take-suc, drop-cons, drop-length}
 use mir.Val.{bool_byte}
@@ -16,7 +15,7 @@ use Rattle.log_format.specs.Bytes.{bytes4, stamp_bytes, splice}
 use Rattle.log_format.proofs.SpliceLaws.{and_then}
 use Rattle.log_format.proofs.AppendLaws.{length-splice}
 use Rattle.history_rules.specs.Faults.{differ}
-use Rattle.order_rules.specs.Fields.{Field, field, bytes2, body_of, field_of, order_of}
+use Rattle.order_rules.specs.Fields.{Field, bytes2, body_of, order_of}
 use Rattle.order_rules.specs.Right.{all_items}
 use Rattle.order_rules.specs.Timestamps.{with_field, fields_up, versions_by, order_by, Wrote}
 use Rattle.order_rules.specs.declared.Written.TheVariants.{Bytes}
