@@ -8,4 +8,6 @@ loop-i-preserved c =
     let p = c.loop-i in
     let a = c.args in
     let r = c.row_bad-bad in
-    (search rules, rows_next max_versions a.items.now a.stamps.now a.marks.now p.i a.count (omega arith) (omega arith) p.bad r.result p.w p.j a.last r.ensures ∙ p.invariant.1)
+    let next =
+    rows_next max_versions a.items.now a.stamps.now a.marks.now p.i a.count (omega arith) (omega arith) p.bad r.result p.w p.j a.last r.ensures in
+    (search rules, next ∙ p.invariant.1)

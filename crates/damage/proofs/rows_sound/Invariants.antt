@@ -10,9 +10,12 @@ use Rattle.damage.proofs.rows_sound.Given as goal
 
 abbrev pub invariant-loop-i : goal.invariant-loop-i
 invariant-loop-i l =
+    let xs = places max_versions l.items in
+    let ks = places max_versions l.stamps in
+    let ms = places max_versions l.marks in
     (l.i ≤ l.count)
-    × ((eqb l.bad 0 && rows_sound l.w l.j l.last (slice l.i l.count (places max_versions l.items)) (slice l.i l.count (places max_versions l.stamps)) (slice l.i l.count (places max_versions l.marks)))
-    ≡ rows_sound 0 0 l.last (take l.count (places max_versions l.items)) (take l.count (places max_versions l.stamps)) (take l.count (places max_versions l.marks)))
+    × ((eqb l.bad 0 && rows_sound l.w l.j l.last (slice l.i l.count xs) (slice l.i l.count ks) (slice l.i l.count ms))
+    ≡ rows_sound 0 0 l.last (take l.count xs) (take l.count ks) (take l.count ms))
 
 abbrev pub decreases-loop-i : goal.decreases-loop-i
 decreases-loop-i l = l.count - l.i

@@ -26,7 +26,9 @@ pub returns-then-has : goal.returns-then-has
 returns-then-has c =
     let d = c.requires.deciding in
     let among = holds_yes c.args.op.stamp.0 _ (sym c.has.ensures ∙ c.if-has.true) in
-    rw c.plan_write.ensures (write_counted _ _ _ d among (omega (arith, d.good.known.0)) c.choose_for-v.result c.choose_for-v.ensures _ (held_count _ _ _ _ _ _ _ _ c.requires))
+    let v = c.choose_for-v in
+    let n = held_count _ _ _ _ _ _ _ _ c.requires in
+    rw c.plan_write.ensures (write_counted _ _ _ d among (omega (arith, d.good.known.0)) v.result v.ensures _ n)
 
 pub returns : goal.returns
 returns c = rw c.refuse.ensures (closed_decided _ _ _ c.requires.deciding c.if-kind-eq1.false (holds-no _ _ (sym c.has.ensures ∙ c.if-has.false)))

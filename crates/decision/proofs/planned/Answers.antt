@@ -13,4 +13,5 @@ decide-requires c =
 pub returns-then-sound : goal.returns-then-sound
 returns-then-sound c =
     let open_full : length c.args.c.live.stamps ≡ 32 = omega arith in
-    rw c.refuse.ensures (bad_planned _ _ _ _ _ _ _ _ c.requires.0 open_full c.requires.1 (sym c.sound.ensures ∙ c.if-sound.true) (not_good _ (sym c.good.ensures ∙ c.if-good.false)))
+    let passed = sym c.sound.ensures ∙ c.if-sound.true in
+    rw c.refuse.ensures (bad_planned _ _ _ _ _ _ _ _ c.requires.0 open_full c.requires.1 passed (not_good _ (sym c.good.ensures ∙ c.if-good.false)))

@@ -6,4 +6,6 @@ pub loop-i-preserved : goal.loop-i-preserved
 loop-i-preserved c =
     let p = c.loop-i in
     let places : length c.args.t.stamps ≡ 32 = omega arith in
-    (search rules, rises_next c.args.t.stamps p.i c.args.t.count (omega arith) (omega arith) p.bad c.misplaced-bad.result p.before c.args.last.0 c.misplaced-bad.ensures ∙ p.invariant.1)
+    let t = c.args.t in
+    let m = c.misplaced-bad in
+    (search rules, rises_next t.stamps p.i t.count (omega arith) (omega arith) p.bad m.result p.before c.args.last.0 m.ensures ∙ p.invariant.1)

@@ -13,16 +13,19 @@ pub returns-then-items-b : goal.returns-then-items-b
 returns-then-items-b c =
     let a = c.args in
     let p = c.place_of-at in
-    answers_held a.items.now a.stamps.now a.values.now a.marks.now a.count a.item a.stamp.0 a.first p.result c.requires p.ensures c.if-at-gt0.true c.if-items-b.true
+    answers_held a.items.now a.stamps.now a.values.now a.marks.now a.count a.item a.stamp.0 a.first p.result
+    c.requires p.ensures c.if-at-gt0.true c.if-items-b.true
 
 pub returns-else-items-b : goal.returns-else-items-b
 returns-else-items-b c =
     let a = c.args in
     let p = c.place_of-at in
-    answers_other a.items.now a.stamps.now a.values.now a.marks.now a.count a.item a.stamp.0 a.first p.result c.requires p.ensures c.if-at-gt0.true c.if-items-b.false
+    answers_other a.items.now a.stamps.now a.values.now a.marks.now a.count a.item a.stamp.0 a.first p.result
+    c.requires p.ensures c.if-at-gt0.true c.if-items-b.false
 
 pub returns-else-at-gt0 : goal.returns-else-at-gt0
 returns-else-at-gt0 c =
     let a = c.args in
     let p = c.place_of-at in
-    answers_first a.items.now a.stamps.now a.values.now a.marks.now a.count a.item a.stamp.0 a.first p.result c.requires p.ensures c.if-at-gt0.false
+    answers_first a.items.now a.stamps.now a.values.now a.marks.now a.count a.item a.stamp.0 a.first p.result
+    c.requires p.ensures c.if-at-gt0.false

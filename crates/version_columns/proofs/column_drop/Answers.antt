@@ -12,7 +12,10 @@ loop-i-preserved c =
     let k = c.args.stamp in
     let ks = c.args.stamps.now in
     let a = c.args.a.now in
+    let n = c.args.count in
     elim c.if-stamps-i.branch [
-      | then-stamps-i w ↦ rw (w.a-is, w.left-is) (narrowing_keep k ks a c.args.count p.i p.left p.a p.invariant c.loop-i-test.true (omega arith) (omega arith) w.if-stamps-i.true)
-      | else-stamps-i w ↦ rw (w.a-is, w.left-is) (narrowing_skip k ks a c.args.count p.i p.left p.a p.invariant c.loop-i-test.true (omega arith) (omega arith) w.if-stamps-i.false)
+      | then-stamps-i w ↦
+          rw (w.a-is, w.left-is) (narrowing_keep k ks a n p.i p.left p.a p.invariant c.loop-i-test.true (omega arith) (omega arith) w.if-stamps-i.true)
+      | else-stamps-i w ↦
+          rw (w.a-is, w.left-is) (narrowing_skip k ks a n p.i p.left p.a p.invariant c.loop-i-test.true (omega arith) (omega arith) w.if-stamps-i.false)
     ]
