@@ -1,4 +1,4 @@
-use Rattle.taking.proofs.TakenLaws.{taking_none, taking_next, taking_stop, taking_full}
+use Rattle.taking.proofs.TakenLaws.{taking_none, taking_next, taking_stop}
 use native.Mathlib.Omega.{arith}
 use Rattle.taking.proofs.take_all.Goals as goal
 
@@ -16,6 +16,3 @@ loop-c-preserved c =
     let k = s.within in
     let t = c.take_node in
     taking_next _ _ _ _ _ _ _ c.loop-c.invariant _ _ (omega arith) s (omega (arith, c.if-k-count.false)) t.ensures t.auto.deg
-
-pub returns : goal.returns
-returns c = taking_full _ _ _ _ _ _ _ c.loop-c.invariant (omega arith)

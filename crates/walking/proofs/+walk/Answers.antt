@@ -1,5 +1,4 @@
 use native.Mathlib.Omega.{arith}
-use lib.ListN.{length-set}
 use Rattle.walking.proofs.WalkedLaws.{stepped_zero, stepped_none, stepped_hit, stepped_on}
 use Rattle.walking.proofs.+walk.Goals as goal
 
@@ -14,11 +13,6 @@ pub returns-then-q-end : goal.returns-then-q-end
 returns-then-q-end t c =
     let s = c.predecessor-p.ensures in
     stepped_hit _ _ _ _ _ _ _ c.if-top-eq0.false (omega arith) (omega arith) _ s (omega (arith, s.within, c.if-p-count.false)) _ c.place_of-q.ensures c.if-q-end.true
-
-pub walk-requires : goal.walk-requires
-walk-requires t c =
-    let s = c.predecessor-p.ensures in
-    (omega (arith, c.if-top-eq0.false), (c.requires.0, (omega (arith, s.within, c.if-p-count.false), (omega arith, simp length-set (omega arith)))))
 
 pub returns : goal.returns
 returns t c =

@@ -1,9 +1,0 @@
--- `graph::lesser` meets its contract: by the two arms of its test.
-use borrow.Author.Tests.{lt-ltb, le-ltb}
-use Rattle.graph.proofs.lesser.Goals as goal
-
-pub returns-then-x-y : goal.returns-then-x-y
-returns-then-x-y c = rw (lt-ltb _ _ c.if-x-y.true)
-
-pub returns-else-x-y : goal.returns-else-x-y
-returns-else-x-y c = rw (le-ltb _ _ c.if-x-y.false)
