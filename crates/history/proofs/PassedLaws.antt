@@ -21,7 +21,8 @@ scanned_all past all [] e = cc
 scanned_all past all (good p r ∷ fs) e = go (eqb (fault past (event_of r)) 0) e (scanned_all (event_of r ∷ past) all fs)
   where
     go : (b : Bool) → cond b (scanned (event_of r ∷ past) fs) (wrong (fault past (event_of r)) p) ≡ right all
-        → (scanned (event_of r ∷ past) fs ≡ right all → all ≡ reverse_aux (events_in fs) (event_of r ∷ past)) → all ≡ reverse_aux (events_in fs) (event_of r ∷ past)
+        → (scanned (event_of r ∷ past) fs ≡ right all → all ≡ reverse_aux (events_in fs) (event_of r ∷ past))
+        → all ≡ reverse_aux (events_in fs) (event_of r ∷ past)
     go true e ih = ih e
     go false e ih = let z : ◌≡◌ {A = ℕ} 0 1 = cc in absurd (omega arith)
 scanned_all past all (broken p ∷ fs) e = let z : ◌≡◌ {A = ℕ} 0 1 = cc in absurd (omega arith)

@@ -108,12 +108,14 @@ module _ {s m : List ℕ} {z at k : ℕ} (i : Walking s m z at k) where
         room_fewer m 1 i.free (omega arith) i.room
 
     -- it is right
-    pub walk_next : c ≡ 0 → length s ≤ max_log → {m' : List ℕ} {j : ℕ} → Noted m (event_of r) m' → (j ≡ is_commit (event_of r)) × (j ≤ 1) → Walking s m' z n (k + j)
+    pub walk_next : c ≡ 0 → length s ≤ max_log → {m' : List ℕ} {j : ℕ} → Noted m (event_of r) m'
+        → (j ≡ is_commit (event_of r)) × (j ≤ 1) → Walking s m' z n (k + j)
     walk_next ok short {m'} {j} o (g, h) =
         let p = progress s b at r n e in
         let q = i.rows in
         let y = i.few in
-        let d : count_commits (events_in (fields_from s 4)) ≡ k + (j + count_commits (events_in (fields_from s n))) = i.count ∙ rw (step_field s b at r n e, g) in
+        let d : count_commits (events_in (fields_from s 4)) ≡ k + (j + count_commits (events_in (fields_from s n))) =
+        i.count ∙ rw (step_field s b at r n e, g) in
         record {
           past = event_of r ∷ i.past;
           table = o.table;

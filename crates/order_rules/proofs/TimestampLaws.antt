@@ -71,7 +71,8 @@ module _ (log : List Event) (w : WellFormed log) where
     where
       go : (x : ℕ) (b : Bool) → leb x most_item ≡ b → vs_of stamp_fields x ≡ vs x
       go x true e = let h = leb-true x most_item e in up_vs vs all_items 0 x (omega arith) (omega arith)
-      go x false e = let h = leb-false x most_item e in up_none vs all_items 0 x (omega arith) ∙ sym (over x (omega arith) (vs x) (timestamp_versions_lem log x))
+      go x false e = let h = leb-false x most_item e in up_none vs all_items 0 x (omega arith)
+          ∙ sym (over x (omega arith) (vs x) (timestamp_versions_lem log x))
 
   stamp-versions : VersionOrder log (vs_of stamp_fields)
   stamp-versions = rw stamp_lists (timestamp_versions_lem log)

@@ -58,7 +58,8 @@ module _ (wr : ℕ → ℕ → ℕ) (x : ℕ) where
   versions_few [] = omega arith
   versions_few (i ∷ nodes) = go (faults.differ (wr i x) 0) (versions_few nodes)
     where
-      go : (b : Bool) → length (versions_by wr nodes x) ≤ length nodes → length (cond b (i ∷ versions_by wr nodes x) (versions_by wr nodes x)) ≤ suc (length nodes)
+      go : (b : Bool) → length (versions_by wr nodes x) ≤ length nodes
+          → length (cond b (i ∷ versions_by wr nodes x) (versions_by wr nodes x)) ≤ suc (length nodes)
       go true ih = omega arith
       go false ih = omega arith
 
@@ -158,7 +159,8 @@ unfolding vs_of
 same_first x ks fs = rw (eq-eqb x x refl)
 
 -- fields of rising items, none empty, with the same lists are the same fields
-pub fields_same : (n : ℕ) (fs gs : List Field) → Rising n (items fs) → Rising n (items gs) → Filled fs → Filled gs → ((x : ℕ) → vs_of fs x ≡ vs_of gs x) → fs ≡ gs
+pub fields_same : (n : ℕ) (fs gs : List Field) → Rising n (items fs) → Rising n (items gs) → Filled fs → Filled gs
+    → ((x : ℕ) → vs_of fs x ≡ vs_of gs x) → fs ≡ gs
 unfolding vs_of
 fields_same n [] [] r s f g h = refl
 fields_same n [] (field y [] ∷ gs) r s f g h = absurd g

@@ -116,10 +116,12 @@ module _ (wr : ℕ → ℕ → ℕ) (x : ℕ) where
     stamps_next =
         let l : length (take count nodes) ≡ count = length-take-le count nodes within in
         let z : i + 1 ≡ suc i = omega arith in
-        rw (z, drop-cons (take count nodes) i 0 (omega arith), get_or-take count nodes i 0 h) (stamps_first (get_or nodes i 0) (drop (suc i) (take count nodes)))
+        rw (z, drop-cons (take count nodes) i 0 (omega arith), get_or-take count nodes i 0 h)
+        (stamps_first (get_or nodes i 0) (drop (suc i) (take count nodes)))
 
     -- one node more: one version more, if it wrote the item
-    pub versions_next : length (versions_by wr (take (i + 1) nodes) x) ≡ length (versions_by wr (take i nodes) x) + bool_byte (differ (wr (get_or nodes i 0) x) 0)
+    pub versions_next : length (versions_by wr (take (i + 1) nodes) x)
+        ≡ length (versions_by wr (take i nodes) x) + bool_byte (differ (wr (get_or nodes i 0) x) 0)
     unfolding versions_by
     versions_next =
         let z : i + 1 ≡ suc i = omega arith in
@@ -213,7 +215,8 @@ module _ (vs : ℕ → List ℕ) (x : ℕ) (h : x < all_items) where
   pub order_next : order_of (fields_up vs (all_items - x) x) ≡ field_bytes x (vs x) ++ order_of (fields_up vs (all_items - (x + 1)) (x + 1))
   order_next = rw up_next (order_with x (vs x) (fields_up vs (all_items - (x + 1)) (x + 1)))
 
-  pub length_next : length (order_of (fields_up vs (all_items - x) x)) ≡ size_of (length (vs x)) + length (order_of (fields_up vs (all_items - (x + 1)) (x + 1)))
+  pub length_next : length (order_of (fields_up vs (all_items - x) x))
+      ≡ size_of (length (vs x)) + length (order_of (fields_up vs (all_items - (x + 1)) (x + 1)))
   length_next = rw (up_next, ← size_is (vs x)) (length_with x (vs x) (fields_up vs (all_items - (x + 1)) (x + 1)))
 
 -- no item left

@@ -1,9 +1,9 @@
 // Writing the timestamp order of a log into a lent buffer, over the map that holds the log's events and the committed stamps, rising.
 #![tactic(auto)]
 
-ghost use Rattle.std.specs.Prelude.{◌≡◌, ◌∷◌, [], ◌++◌, ◌+◌, ◌*◌, ◌≤◌, ◌<◌, length, take};
+ghost use Rattle.std.specs.Prelude.{◌≡◌, ◌∷◌, [], ◌++◌, ◌+◌, ◌≤◌, length, take};
 ghost use Rattle.log_format.specs.Bytes.{stamp_bytes, splice};
-ghost use Rattle.history_rules.specs.WellFormed.{most_item, most_committed};
+ghost use Rattle.history_rules.specs.WellFormed.{most_committed};
 ghost use Rattle.history_rules.specs.Held.{written_in};
 ghost use Rattle.index.specs.Index.{table_of, Table};
 ghost use Rattle.order_rules.specs.Fields.{bytes2, body_of};

@@ -47,7 +47,8 @@ ranked k l n = in_any k l (rank_in_lem k l (omega (arith, n)))
 -- ---- one stamp
 
 -- a stamp found among the first nodes has the rank after its place; one that is not has none
-pub located_rank : {a : List ℕ} {count k p : ℕ} → count ≤ length a → Rising 0 (take count a) → Located a count k p → p ≢ count → rank_in k (take count a) ≡ suc p
+pub located_rank : {a : List ℕ} {count k p : ℕ} → count ≤ length a → Rising 0 (take count a) → Located a count k p → p ≢ count
+    → rank_in k (take count a) ≡ suc p
 located_rank {a} {count} {k} {p} w r f n =
     let h = f.within in
     let l : p < count = omega (arith, n) in

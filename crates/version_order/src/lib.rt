@@ -2,7 +2,7 @@
 // leaves each version's rank.
 #![tactic(auto)]
 
-ghost use Rattle.std.specs.Prelude.{◌≡◌, not, ◌&&◌, ℕ, ◌+◌, ◌-◌, ◌*◌, ◌≤◌, ◌<◌, eqb, length, take, get_or};
+ghost use Rattle.std.specs.Prelude.{◌≡◌, not, ℕ, ◌+◌, ◌-◌, ◌*◌, ◌≤◌, ◌<◌, length, take, get_or};
 ghost use Rattle.numbers.specs.Numbers.{items};
 ghost use Rattle.history_rules.specs.WellFormed.{most_item};
 ghost use Rattle.history_rules.specs.Faults.{differ};
@@ -10,7 +10,6 @@ ghost use Rattle.history_rules.specs.Held.{written_in};
 ghost use Rattle.index.specs.Index.{table_of, Table};
 ghost use Rattle.order_rules.specs.Reading.{found_at, bodied, stamps_at};
 ghost use Rattle.order_rules.specs.Right.{some_below};
-ghost use Rattle.order_rules.specs.Ranks.{rank_in};
 ghost use Rattle.version_order.specs.Judging.{Ready, Clear, gap_at, ended_by, Noted, FieldRanked, Ranked};
 
 use log_format::Stamp;
