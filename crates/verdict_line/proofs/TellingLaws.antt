@@ -1,9 +1,9 @@
 -- The stamps that the check left in the answer are those of the verdict, so the line of what it answered is the verdict's line, and it fits.
 -- Assumes nothing.
-use Prim.Native.Nat.{ℕ, ◌+◌, ◌*◌, ◌^◌, ◌≤◌, ◌<◌}
+use Prim.Native.Nat.{ℕ, ◌+◌, ◌^◌, ◌≤◌, ◌<◌}
 use native.Mathlib.Omega.{arith}
-use mathlib.Core.Path.{◌≡◌, refl, sym, ap, ◌∙◌, subst}
-use mathlib.Core.List.{List, [], ◌∷◌, ◌++◌}
+use mathlib.Core.Path.{◌≡◌, refl, sym, ap, subst}
+use mathlib.Core.List.{List, ◌++◌}
 use lib.ListN.{length, drop, length-append}
 use Rattle.lists.specs.Member.{◌∈◌}
 use Rattle.log_format.specs.Bytes.{Bytes, splice, stamp_bytes}
