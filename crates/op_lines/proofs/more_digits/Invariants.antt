@@ -7,7 +7,8 @@ use Rattle.line_format.specs.Decimals.{most, more_digits}
 use Rattle.op_lines.proofs.more_digits.Given as goal
 
 abbrev pub invariant-loop-at : goal.invariant-loop-at
-invariant-loop-at l = (l.at ≤ length l.line) × (l.n ≤ most) × (more_digits l.first l.from (drop l.from l.line) ≡ more_digits l.n l.at (drop l.at l.line))
+invariant-loop-at l =
+    (l.at ≤ length l.line) × (l.n ≤ most) × (more_digits l.first l.from (drop l.from l.line) ≡ more_digits l.n l.at (drop l.at l.line))
 
 abbrev pub decreases-loop-at : goal.decreases-loop-at
 decreases-loop-at l = length l.line - l.at
