@@ -54,7 +54,7 @@ class Tree:
     def crates(self):
         """The crates that crates.txt lists, each with its line."""
         lines = enumerate(self.text("crates.txt").split("\n"), 1)
-        return {line.split(":")[0]: number for number, line in lines
+        return {line.split(":")[0].split()[0]: number for number, line in lines
                 if ":" in line and not line.startswith("#")}
 
 
