@@ -82,13 +82,15 @@ module _ (rank : List ℕ) (x k j r : ℕ) (m : List ℕ) where
   pub others_none : Adds (Others rank x k j r 0) m m
   others_none = no_more (Others rank x k j r 0) m (λ c d o. let z = o.1 in omega arith)
 
-  pub others_next : (t : ℕ) (e g : List ℕ) → Adds (Others rank x k j r t) m e → Adds (One t (get_or rank (t * 64 + x) 0) k j r) e g → Adds (Others rank x k j r (t + 1)) m g
+  pub others_next : (t : ℕ) (e g : List ℕ) → Adds (Others rank x k j r t) m e → Adds (One t (get_or rank (t * 64 + x) 0) k j r) e g
+      → Adds (Others rank x k j r (t + 1)) m g
   others_next t e g y z =
       adds_same _ (Others rank x k j r (t + 1)) m g
       (λ c d o. elim o [ inl l ↦ (l.0, omega (arith, l.1), l.2) | inr n ↦ (t, omega arith, n) ])
       (λ c d o. split c d o (eqb o.0 t) refl)
       (adds_join (Others rank x k j r t) (One t (get_or rank (t * 64 + x) 0) k j r) m e g y z)
     where
-      split : (c d : ℕ) (o : Others rank x k j r (t + 1) c d) → (b : Bool) → eqb o.0 t ≡ b → Others rank x k j r t c d ⊎ One t (get_or rank (t * 64 + x) 0) k j r c d
+      split : (c d : ℕ) (o : Others rank x k j r (t + 1) c d) → (b : Bool) → eqb o.0 t ≡ b
+          → Others rank x k j r t c d ⊎ One t (get_or rank (t * 64 + x) 0) k j r c d
       split c d o true q = inr (subst (λ (i : ℕ). One i (get_or rank (i * 64 + x) 0) k j r c d) (eqb-true o.0 t q) o.2)
       split c d o false q = inl (o.0, (let n = eqb-false o.0 t q in omega (arith, n, o.1)), o.2)

@@ -40,7 +40,8 @@ module _ (log : List Event) (vs : ℕ → List ℕ) (nodes : List ℕ) (count : 
   edges_none h a b u v = no_edge a b (omega arith) (omega arith)
 
   -- an event that draws no edge
-  pub edges_skip : (e : Event) (part : List Event) (m : List ℕ) → ((a b : ℕ) → by_read log vs a b e ≡ false) → EdgesOf log vs nodes count part m → EdgesOf log vs nodes count (e ∷ part) m
+  pub edges_skip : (e : Event) (part : List Event) (m : List ℕ) → ((a b : ℕ) → by_read log vs a b e ≡ false) → EdgesOf log vs nodes count part m
+      → EdgesOf log vs nodes count (e ∷ part) m
   edges_skip e part m f h a b u v = rw (f (get_or nodes a 0) (get_or nodes b 0)) (h a b u v)
 
   -- a committed transaction's read
@@ -53,10 +54,12 @@ module _ (log : List Event) (vs : ℕ → List ℕ) (nodes : List ℕ) (count : 
       d.edges a b (omega arith) (omega arith)
       ∙ or_cond (edge_at m a b) _
       ∙ ap (λ (t : Bool). cond t true (edge_at m a b)) (drawn_read log vs nodes rank count r g vo x item k j v c i a b u w)
-      ∙ ap (λ (t : Bool). cond (by_read log vs (get_or nodes a 0) (get_or nodes b 0) (reads (get_or nodes k 0) x (stamp_at nodes count j) v)) true t) (h a b u w)
+      ∙ ap (λ (t : Bool). cond (by_read log vs (get_or nodes a 0) (get_or nodes b 0) (reads (get_or nodes k 0) x (stamp_at nodes count j) v)) true t)
+      (h a b u w)
 
   -- the order of the events does not matter
-  pub edges_same : (part more : List Event) (m : List ℕ) → ((e : Event) → (e ∈ part) ↔ (e ∈ more)) → EdgesOf log vs nodes count part m → EdgesOf log vs nodes count more m
+  pub edges_same : (part more : List Event) (m : List ℕ) → ((e : Event) → (e ∈ part) ↔ (e ∈ more)) → EdgesOf log vs nodes count part m
+      → EdgesOf log vs nodes count more m
   edges_same part more m s h a b u v =
       let p : Event → Bool = by_read log vs (get_or nodes a 0) (get_or nodes b 0) in
       h a b u v
@@ -65,6 +68,7 @@ module _ (log : List Event) (vs : ℕ → List ℕ) (nodes : List ℕ) (count : 
       (λ t. let q = any_true p more t in any-holds p part q.0 ((s q.0).1 q.1) q.2)
 
   -- with all its events, the matrix has the edges of the log
-  pub edges_all : (m : List ℕ) → EdgesOf log vs nodes count log m → (a b : ℕ) → a < count → b < count → edge log vs (get_or nodes a 0) (get_or nodes b 0) ≡ edge_at m a b
+  pub edges_all : (m : List ℕ) → EdgesOf log vs nodes count log m → (a b : ℕ) → a < count → b < count
+      → edge log vs (get_or nodes a 0) (get_or nodes b 0) ≡ edge_at m a b
   unfolding edge
   edges_all m h a b u v = sym (h a b u v)

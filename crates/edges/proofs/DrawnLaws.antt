@@ -18,7 +18,8 @@ use Rattle.edges.proofs.MatrixLaws.{one_more}
 use Rattle.edges.proofs.AddingLaws.{adds_join}
 
 -- a matrix with the edges of a relation has those of the test that computes it
-pub adds_drew : (rank : List ℕ) (count k x j : ℕ) (R : ℕ → ℕ → Type 0) (m e : List ℕ) → ((a b : ℕ) → R a b → drawn rank count k x j a b ≡ true) → ((a b : ℕ) → drawn rank count k x j a b ≡ true → R a b) → Adds R m e → Drew rank count k x j m e
+pub adds_drew : (rank : List ℕ) (count k x j : ℕ) (R : ℕ → ℕ → Type 0) (m e : List ℕ) → ((a b : ℕ) → R a b → drawn rank count k x j a b ≡ true)
+    → ((a b : ℕ) → drawn rank count k x j a b ≡ true → R a b) → Adds R m e → Drew rank count k x j m e
 adds_drew rank count k x j R m e f g y = record {
   size = y.size;
   edges = λ a b u v. same_test (edge_at e a b) (edge_at m a b || drawn rank count k x j a b)
@@ -107,9 +108,17 @@ module _ (rank : List ℕ) (count k x j : ℕ) where
   unfolding drawn
   draws_drawn a b n (reads h) = rw (differs j k n) (true_left (from_read rank count k x j j k) _ (rw (lt-ltb j count h, eq-eqb j j refl, eq-eqb k k refl)))
   draws_drawn a b n (before {i} o p h) = rw (differs j k n) (true_right (from_read rank count k x j i j) _ (true_left (from_before rank count k x j i j) _
-      (rw (is_writer_lem i (λ e. absurd (let z : rank_of i ≡ rank_of j = ap rank_of e in omega arith)) o p, lt-ltb (rank_of i) (rank_of j) h, eq-eqb j j refl))))
+      (rw (
+        is_writer_lem i (λ e. absurd (let z : rank_of i ≡ rank_of j = ap rank_of e in omega arith)) o p,
+        lt-ltb (rank_of i) (rank_of j) h,
+        eq-eqb j j refl,
+      ))))
   draws_drawn a b n (after {i} o p h) = rw (differs j k n) (true_right (from_read rank count k x j k i) _ (true_right (from_before rank count k x j k i) _
-      (rw (is_writer_lem i (λ e. absurd (let z : rank_of i ≡ rank_of j = ap rank_of e in omega arith)) o p, lt-ltb (rank_of j) (rank_of i) h, eq-eqb k k refl))))
+      (rw (
+        is_writer_lem i (λ e. absurd (let z : rank_of i ≡ rank_of j = ap rank_of e in omega arith)) o p,
+        lt-ltb (rank_of j) (rank_of i) h,
+        eq-eqb k k refl,
+      ))))
 
   -- ---- what the code adds
 
@@ -119,8 +128,10 @@ module _ (rank : List ℕ) (count k x j : ℕ) where
 
   draws_others : (r : ℕ) → r ≡ rank_of j → (a b : ℕ) → Draws rank count k x j a b → ((j < count) × (a ≡ j) × (b ≡ k)) ⊎ Others rank x k j r count a b
   draws_others r e a b (reads h) = inl (h, refl, refl)
-  draws_others r e a b (before {i} n p q) = let h = ranked_node rank count x i p in let z = rank_node rank count x i h in inr (i, h, comes_before n (omega arith) (omega arith))
-  draws_others r e a b (after {i} n p q) = let h = ranked_node rank count x i p in let z = rank_node rank count x i h in inr (i, h, comes_after n (omega arith) (omega arith))
+  draws_others r e a b (before {i} n p q) = let h = ranked_node rank count x i p in let z = rank_node rank count x i h in
+      inr (i, h, comes_before n (omega arith) (omega arith))
+  draws_others r e a b (after {i} n p q) = let h = ranked_node rank count x i p in let z = rank_node rank count x i h in
+      inr (i, h, comes_after n (omega arith) (omega arith))
 
   module _ (n : j ≢ k) (m e : List ℕ) where
     -- a read from version 0
@@ -134,7 +145,8 @@ module _ (rank : List ℕ) (count k x j : ℕ) where
         zero_rank = sym (rank_past rank count x j h)
 
     -- a read from another node
-    pub drew_other : j < count → k < count → count ≤ most_nodes → matrix_size ≤ length m → Adds (Others rank x k j (get_or rank (j * 64 + x) 0) count) (with_edge m j k) e → Drew rank count k x j m e
+    pub drew_other : j < count → k < count → count ≤ most_nodes → matrix_size ≤ length m
+        → Adds (Others rank x k j (get_or rank (j * 64 + x) 0) count) (with_edge m j k) e → Drew rank count k x j m e
     drew_other h l w s y = adds_drew rank count k x j (λ (a b : ℕ). ((a ≡ j) × (b ≡ k)) ⊎ Others rank x k j (get_or rank (j * 64 + x) 0) count a b) m e
         (λ a b o. draws_drawn a b n (elim o [ inl q ↦ from-read a b q.0 q.1 | inr p ↦ others_draws _ same_rank a b p ]))
         (λ a b t. elim (draws_others _ same_rank a b (drawn_draws a b t).1) [ inl q ↦ inl (q.1, q.2) | inr o ↦ inr o ])

@@ -35,11 +35,13 @@ module _ (m : List ℕ) (a b : ℕ) (s : matrix_size ≤ length m) (u : a < most
       keep c d y e true h false k = edge_other c d y (λ i j. eqb-false d b k j) ∙ e
       keep c d y e false h q k = edge_other c d y (λ i j. eqb-false c a h i) ∙ e
 
-      back : (c d : ℕ) → d < most_nodes → edge_at (with_edge m a b) c d ≡ true → (p : Bool) → eqb c a ≡ p → (q : Bool) → eqb d b ≡ q → (edge_at m c d ≡ true) ⊎ R c d
+      back : (c d : ℕ) → d < most_nodes → edge_at (with_edge m a b) c d ≡ true → (p : Bool) → eqb c a ≡ p → (q : Bool) → eqb d b ≡ q
+          → (edge_at m c d ≡ true) ⊎ R c d
       back c d y e true h true k = inr (subst (λ (i : ℕ). R i d) (sym (eqb-true c a h)) (subst (λ (j : ℕ). R a j) (sym (eqb-true d b k)) g))
       back c d y e true h false k = inl (sym (edge_other c d y (λ i j. eqb-false d b k j)) ∙ e)
       back c d y e false h q k = inl (sym (edge_other c d y (λ i j. eqb-false c a h i)) ∙ e)
 
 -- a matrix of zeros has no edge
 pub no_edge : (a b : ℕ) → a < most_nodes → b < most_nodes → edge_at (replicate matrix_size 0) a b ≡ false
-no_edge a b u v = let z = get_or-replicate {A = ℕ} 65536 (a * 256 + b) 0 0 (omega arith) in ne_eqb (get_or (replicate matrix_size 0) (a * 256 + b) 0) 1 (λ e. omega arith)
+no_edge a b u v = let z = get_or-replicate {A = ℕ} 65536 (a * 256 + b) 0 0 (omega arith) in
+    ne_eqb (get_or (replicate matrix_size 0) (a * 256 + b) 0) 1 (λ e. omega arith)

@@ -57,7 +57,8 @@ module _ (log : List Event) (vs : ℕ → List ℕ) (ss rank : List ℕ) (count 
   -- different nodes have different stamps
   pub same_node : (a b : ℕ) → a < count → b < count → node a ≡ node b → a ≡ b
   same_node a b u v e =
-      distinct_at (committed log) a b (rising_distinct 0 (committed log) (committed_rising log)) (omega (arith, committed_count)) (omega (arith, committed_count))
+      distinct_at (committed log) a b (rising_distinct 0 (committed log) (committed_rising log)) (omega (arith, committed_count))
+      (omega (arith, committed_count))
       (node_at a u ∙ e ∙ sym (node_at b v))
 
   pub stamp_node : (i : ℕ) → i < count → stamp i ≡ node i
@@ -115,7 +116,11 @@ module _ (log : List Event) (vs : ℕ → List ℕ) (ss rank : List ℕ) (count 
       read_rank : j < count → rank_of j ≢ 0
       read_rank h =
           let e = stamp_node j h in
-          has_rank j h (v, subst (λ (t : ℕ). Put t x v log) e (read-written log g (node k) x (stamp j) v ((got_is (node k) x (stamp j) v log).1 m) (λ z. node_stamp j h (sym e ∙ z))))
+          has_rank j h (
+            v,
+            subst (λ (t : ℕ). Put t x v log) e
+                (read-written log g (node k) x (stamp j) v ((got_is (node k) x (stamp j) v log).1 m) (λ z. node_stamp j h (sym e ∙ z))),
+          )
 
       other_node : j ≢ k → stamp j ≢ node k
       other_node n e = go (ltb j count) refl
@@ -154,7 +159,8 @@ module _ (log : List Event) (vs : ℕ → List ℕ) (ss rank : List ℕ) (count 
           rw (stamp_node i c) (comes_before (wrote i p n (λ e. omega arith)) (rw (stamp_node i c) at (before i j (λ _ z. omega arith) read_rank q)))
       to_stamps a b (nodes.after {i} n p q) =
           let c = ranked_node rank count x i p in
-          rw (stamp_node i c, stamp_node k u) (comes_after (wrote i p n (λ e. omega arith)) (rw (stamp_node i c) at (before j i read_rank (λ _ z. omega arith) q)))
+          rw (stamp_node i c, stamp_node k u) (comes_after (wrote i p n (λ e. omega arith))
+          (rw (stamp_node i c) at (before j i read_rank (λ _ z. omega arith) q)))
 
       -- ---- what is drawn the nodes draw
 
@@ -173,7 +179,8 @@ module _ (log : List Event) (vs : ℕ → List ℕ) (ss rank : List ℕ) (count 
           let z = rank_at_lem h t.1 q t.3 t.5 in
           omega (arith, t.2, y, z)
 
-      to_nodes : (a b : ℕ) → a < count → b < count → (c d : ℕ) → c ≡ node a → d ≡ node b → Draws log vs (node k) x (stamp j) c d → nodes.Draws rank count k x j a b
+      to_nodes : (a b : ℕ) → a < count → b < count → (c d : ℕ) → c ≡ node a → d ≡ node b → Draws log vs (node k) x (stamp j) c d
+          → nodes.Draws rank count k x j a b
       to_nodes a b o p c d e f (reads_from nz) =
           let h = from_node nz in
           rw (same_node a j o h (sym e ∙ stamp_node j h), same_node b k p u (sym f)) (nodes.reads h)
@@ -188,7 +195,8 @@ module _ (log : List Event) (vs : ℕ → List ℕ) (ss rank : List ℕ) (count 
           rw (same_node a k o u (sym e)) (nodes.after (λ q. w.not_k (f ∙ ap node q)) (omega (arith, n p)) l)
 
       -- a read draws an edge between nodes exactly where it draws one between their stamps
-      pub drawn_iff : (a b : ℕ) → a < count → b < count → (drawn rank count k x j a b ≡ true) ↔ ((stamp j ≢ node k) × Draws log vs (node k) x (stamp j) (node a) (node b))
+      pub drawn_iff : (a b : ℕ) → a < count → b < count
+          → (drawn rank count k x j a b ≡ true) ↔ ((stamp j ≢ node k) × Draws log vs (node k) x (stamp j) (node a) (node b))
       drawn_iff a b o p = (
         λ e. let t = drawn_draws rank count k x j a b e in (other_node t.0, rw (stamp_node a o, stamp_node b p) at (to_stamps a b t.1)),
         λ t. draws_drawn rank count k x j a b (node_other t.0) (to_nodes a b o p (node a) (node b) refl refl t.1),

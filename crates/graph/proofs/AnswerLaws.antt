@@ -151,7 +151,8 @@ module _ (l : List ℕ) (t : ℕ) (w : t ≤ length l) where
   part_in zero f e x m = let z : t ≡ f = omega arith in in_nil (subst (λ (s : List ℕ). x ∈ s) (ap (λ (u : ℕ). slice f u l) z ∙ slice_empty f l) m)
   part_in (suc k) f e x m = go (subst (λ (s : List ℕ). x ∈ s) (slice-cons f t l 0 (omega arith) w) m) (λ n. part_in k (suc f) (omega arith) x n)
     where
-      go : x ∈ get_or l f 0 ∷ slice (suc f) t l → (x ∈ slice (suc f) t l → (i : ℕ) × (suc f ≤ i) × (i < t) × (get_or l i 0 ≡ x)) → (i : ℕ) × (f ≤ i) × (i < t) × (get_or l i 0 ≡ x)
+      go : x ∈ get_or l f 0 ∷ slice (suc f) t l → (x ∈ slice (suc f) t l → (i : ℕ) × (suc f ≤ i) × (i < t) × (get_or l i 0 ≡ x))
+          → (i : ℕ) × (f ≤ i) × (i < t) × (get_or l i 0 ≡ x)
       go (Memᴰ.head q) ih = (f, omega arith, omega arith, sym q)
       go (Memᴰ.tail n) ih = let r = ih n in (r.0, omega (arith, r.1), r.2, r.3)
 
@@ -192,7 +193,8 @@ module _ (l : List ℕ) (t : ℕ) (w : t ≤ length l) where
       up j x y false e = s.back j (ltb-false j q e) y
 
 pub turned : (nodes path : List ℕ) (f q t : ℕ) (answer mid after : List ℕ) → LeastAt path f t q → t ≤ length path → 4 * (t - f) ≤ length answer
-    → mid ≡ splice answer 0 (node_bytes nodes (slice q t path)) → after ≡ splice mid (4 * (t - q)) (node_bytes nodes (slice f q path)) → Turned nodes path f t answer after
+    → mid ≡ splice answer 0 (node_bytes nodes (slice q t path)) → after ≡ splice mid (4 * (t - q)) (node_bytes nodes (slice f q path))
+    → Turned nodes path f t answer after
 turned nodes path f q t answer mid after s w h a b =
     let x = node_bytes nodes (slice q t path) in
     let y = node_bytes nodes (slice f q path) in

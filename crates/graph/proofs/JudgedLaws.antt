@@ -92,7 +92,8 @@ module _ (E : ℕ → ℕ → Bool) (n r : ℕ) (o d : List ℕ) (v : Taken E n 
         go : (a : ℕ) (l : List ℕ) → left_of n d ≡ a ∷ l → Cycle (Passes E) (left_of n d) part
         go a l e =
             let t = subst (λ (u : List ℕ). TakesAny (Passes E) (indices n) order u) (sym v.left ∙ e) taken_away in
-            let y = walked_rule E (Passes E) (passes E) 0 a l (left_rising (Passes E) 0 order (indices n) (a ∷ l) t (up_from_rising 0 n)) (left_stuck (Passes E) order (indices n) (a ∷ l) t) in
+            let y = walked_rule E (Passes E) (passes E) 0 a l (left_rising (Passes E) 0 order (indices n) (a ∷ l) t (up_from_rising 0 n))
+            (left_stuck (Passes E) order (indices n) (a ∷ l) t) in
             subst (λ (u : List ℕ). Cycle (Passes E) (left_of n d) u) (sym is_walked)
             (subst (λ (u : List ℕ). Cycle (Passes E) u (walked E u)) (sym e) (walks_cycle (Passes E) (a ∷ l) a (walked E (a ∷ l)) (Memᴰ.head refl) y))
 
@@ -118,5 +119,12 @@ module _ (E : ℕ → ℕ → Bool) (n r : ℕ) (o d : List ℕ) (v : Taken E n 
         let y : smallest_first (walked E (left_of n d)) ≡ p = ap smallest_first (sym is_walked) ∙ turn_least after s.end wide s.start t.place t.least in
         let z : verdict_of E (indices n) ≡ cycle p =
         ap (judge E order) (sym v.left ∙ q.1.1) ∙ ap (λ (u : List ℕ). cycle (smallest_first (walked E u))) (sym q.1.1) ∙ ap cycle y in
-        let c : length p ≡ s.end - s.start = omega (arith, length-append (slice t.place s.end after) (slice s.start t.place after), length-slice t.place s.end after wide, length-slice s.start t.place after (omega (arith, t.least.high)), t.least.low, t.least.high) in
+        let c : length p ≡ s.end - s.start = omega (
+          arith,
+          length-append (slice t.place s.end after) (slice s.start t.place after),
+          length-slice t.place s.end after wide,
+          length-slice s.start t.place after (omega (arith, t.least.high)),
+          t.least.low,
+          t.least.high,
+        ) in
         rw z (record { found = ap Ring (sym (length-map p (λ (k : ℕ). get_or nodes k 0) ∙ c)); bytes = t.is })

@@ -44,7 +44,8 @@ module _ (nodes : List ℕ) where
 
     stands : (E D : ℕ → ℕ → Bool) → ((x y : ℕ) → x < count → y < count → D (node x) (node y) ≡ E x y) → Stands E D node count
     stands E D edges =
-        let s = places_stand (take count nodes) 0 rises E D (λ x y u v. rw (same_at x (omega (arith, size)), same_at y (omega (arith, size))) (edges x y (omega (arith, size)) (omega (arith, size)))) in
+        let s = places_stand (take count nodes) 0 rises E D
+        (λ x y u v. rw (same_at x (omega (arith, size)), same_at y (omega (arith, size))) (edges x y (omega (arith, size)) (omega (arith, size)))) in
         record {
           edges = edges;
           order = λ x y u v. rw (same_at x u, same_at y v) at (s.order x y (omega (arith, size)) (omega (arith, size)));
@@ -52,19 +53,24 @@ module _ (nodes : List ℕ) where
         }
 
     -- the verdict over the nodes, with their stamps, is the verdict over the stamps
-    pub stamps_verdict : (E D : ℕ → ℕ → Bool) → ((x y : ℕ) → x < count → y < count → D (node x) (node y) ≡ E x y) → renamed node (verdict_of E (indices count)) ≡ verdict_of D (take count nodes)
+    pub stamps_verdict : (E D : ℕ → ℕ → Bool) → ((x y : ℕ) → x < count → y < count → D (node x) (node y) ≡ E x y)
+        → renamed node (verdict_of E (indices count)) ≡ verdict_of D (take count nodes)
     stamps_verdict E D edges =
-        sym (ap (verdict_of D) (sym (map-up_from count 0 (omega arith))) ∙ verdict-map E D node count (stands E D edges) (indices count) (λ x m. index_below count x m))
+        sym (ap (verdict_of D) (sym (map-up_from count 0 (omega arith)))
+        ∙ verdict-map E D node count (stands E D edges) (indices count) (λ x m. index_below count x m))
 
-module _ (log : List Event) (vs : ℕ → List ℕ) (nodes : List ℕ) (count : ℕ) (room : count ≤ length nodes) (all : take count nodes ≡ committed log) (m : List ℕ) where
+module _ (log : List Event) (vs : ℕ → List ℕ) (nodes : List ℕ) (count : ℕ) (room : count ≤ length nodes) (all : take count nodes ≡ committed log)
+    (m : List ℕ) where
   -- where the matrix is the test of the log's edges, its verdict is the log's
-  pub matrix_verdict : ((a b : ℕ) → a < count → b < count → edge log vs (get_or nodes a 0) (get_or nodes b 0) ≡ edge_at m a b) → verdict_at m count nodes ≡ verdict log vs
+  pub matrix_verdict : ((a b : ℕ) → a < count → b < count → edge log vs (get_or nodes a 0) (get_or nodes b 0) ≡ edge_at m a b)
+      → verdict_at m count nodes ≡ verdict log vs
   unfolding verdict_at verdict
   matrix_verdict edges =
       stamps_verdict nodes count room (rw all (committed_rising log)) (edge_at m) (edge log vs) edges ∙ ap (verdict_of (edge log vs)) all
 
   -- where the matrix has exactly the edges of the log between committed transactions
-  pub matrix_edges : ((a b : ℕ) → a < count → b < count → (edge_at m a b ≡ true) ↔ Edge log vs (get_or nodes a 0) (get_or nodes b 0)) → verdict_at m count nodes ≡ verdict log vs
+  pub matrix_edges : ((a b : ℕ) → a < count → b < count → (edge_at m a b ≡ true) ↔ Edge log vs (get_or nodes a 0) (get_or nodes b 0))
+      → verdict_at m count nodes ≡ verdict log vs
   matrix_edges edges = matrix_verdict (λ a b u v. same_test (edge log vs (get_or nodes a 0) (get_or nodes b 0)) (edge_at m a b)
       (λ e. (edges a b u v).1 (edge_true log vs (get_or nodes a 0) (get_or nodes b 0) e))
       (λ e. true_edge log vs ((edges a b u v).0 e)))

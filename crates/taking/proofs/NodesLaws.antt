@@ -94,7 +94,8 @@ module _ (p : ℕ → Bool) where
   tally-without k [] m = in_nil m
   tally-without k (a ∷ l) m = go (eqb k a) refl (λ n. tally-without k l n)
     where
-      go : (b : Bool) → eqb k a ≡ b → (k ∈ l → bit (p k) + tally p (without k l) ≡ tally p l) → bit (p k) + tally p (cond b l (a ∷ without k l)) ≡ bit (p a) + tally p l
+      go : (b : Bool) → eqb k a ≡ b → (k ∈ l → bit (p k) + tally p (without k l) ≡ tally p l)
+          → bit (p k) + tally p (cond b l (a ∷ without k l)) ≡ bit (p a) + tally p l
       go true e ih = rw (eqb-true k a e) refl
       go false e ih = omega (arith, ih (in_tail m (eqb-false k a e)))
 
@@ -168,7 +169,8 @@ pub left_not : (d : List ℕ) (k : ℕ) → is_left d k ≡ true → get_or d k 
 left_not d k t z = false_true (sym (left_false d k z) ∙ t)
 
 -- the nodes left when k has gone
-pub left_without : (n k : ℕ) (d e : List ℕ) → is_left e k ≡ false → ((j : ℕ) → j < n → j ≢ k → is_left e j ≡ is_left d j) → left_of n e ≡ without k (left_of n d)
+pub left_without : (n k : ℕ) (d e : List ℕ) → is_left e k ≡ false → ((j : ℕ) → j < n → j ≢ k → is_left e j ≡ is_left d j)
+    → left_of n e ≡ without k (left_of n d)
 left_without n k d e g h =
     rising_same 0 0 (left_of n e) (without k (left_of n d)) (left_rising n e) (rising_without k 0 (left_of n d) (left_rising n d))
     (λ x. (λ m. let r = left_in n e x m in forth x r.0 r.1, λ m. back x m))
@@ -181,7 +183,8 @@ left_without n k d e g h =
     back : (x : ℕ) → x ∈ without k (left_of n d) → x ∈ left_of n e
     back x m =
         let r = left_in n d x (in_without k (left_of n d) m) in
-        let z : x ≢ k = λ q. (distinct_without k (left_of n d) (rising_distinct 0 (left_of n d) (left_rising n d))).1 (subst (λ (y : ℕ). y ∈ without k (left_of n d)) q m) in
+        let z : x ≢ k = λ q. (distinct_without k (left_of n d) (rising_distinct 0 (left_of n d) (left_rising n d))).1
+        (subst (λ (y : ℕ). y ∈ without k (left_of n d)) q m) in
         in_left n e x r.0 (h x r.0 z ∙ r.1)
 
 -- ---- a scan

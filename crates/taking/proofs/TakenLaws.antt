@@ -20,7 +20,22 @@ use Rattle.lists.proofs.OrderLaws.{length_without}
 use Rattle.graph_theory.specs.Taking.{free, next, take_all}
 use Rattle.taking.specs.Nodes.{indices, bit, tally, is_left, left_of, FirstOf}
 use Rattle.taking.specs.Taken.{Counted, Tallied, Lowered, Taken}
-use Rattle.taking.proofs.NodesLaws.{length-up_from, tally-without, tally_none, tally_some, first_is, first_not, left_in, in_left, left_rising, all_left, left_true, left_false, left_not, left_without}
+use Rattle.taking.proofs.NodesLaws.{
+  length-up_from,
+  tally-without,
+  tally_none,
+  tally_some,
+  first_is,
+  first_not,
+  left_in,
+  in_left,
+  left_rising,
+  all_left,
+  left_true,
+  left_false,
+  left_not,
+  left_without,
+}
 
 -- ---- counting
 
@@ -84,7 +99,8 @@ module _ (E : ℕ → ℕ → Bool) (n k : ℕ) (d : List ℕ) where
 -- ---- the theory's step
 
 module _ (E : ℕ → ℕ → Bool) where
-  take_step : (l : List ℕ) (k : ℕ) → k ∈ l → next E l ≡ some k → ((take_all E l).taken ≡ k ∷ (take_all E (without k l)).taken) × ((take_all E l).left ≡ (take_all E (without k l)).left)
+  take_step : (l : List ℕ) (k : ℕ) → k ∈ l → next E l ≡ some k
+      → ((take_all E l).taken ≡ k ∷ (take_all E (without k l)).taken) × ((take_all E l).left ≡ (take_all E (without k l)).left)
   take_step l k m e =
       let s : length l ≡ suc (length (without k l)) = sym (length_without k l m) in
       (rw s (rw e refl), rw s (rw e refl))
@@ -174,7 +190,8 @@ module _ (E : ℕ → ℕ → Bool) (n : ℕ) where
       }
 
   module _ (d₀ o₀ d o : List ℕ) (c : ℕ) (v : Taking E n d₀ o₀ d o c) where
-    pub taking_next : (k : ℕ) (e : List ℕ) → c < n → FirstOf (is_one d) n k → k < n → Lowered E n k d e → length e ≡ length d → Taking E n d₀ o₀ e (set o c k) (c + 1)
+    pub taking_next : (k : ℕ) (e : List ℕ) → c < n → FirstOf (is_one d) n k → k < n → Lowered E n k d e → length e ≡ length d
+        → Taking E n d₀ o₀ e (set o c k) (c + 1)
     taking_next k e h s g l z =
         let f = next_is E n d v.tallied k s g in
         let q = next_left E n d v.tallied k f.0 e l in

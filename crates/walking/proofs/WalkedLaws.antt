@@ -139,7 +139,8 @@ module _ (E : ℕ → ℕ → Bool) (n m at : ℕ) (d path : List ℕ) where
       unrolled : walk E top (left_of n d) at (slice top m path) ≡ cond (any (eqb p) part) (up_to p part) (walk E (top - 1) (left_of n d) p part)
       unrolled =
           ap (λ (k : ℕ). walk E k (left_of n d) at (slice top m path)) (sym same)
-          ∙ ap (λ (o : Option ℕ). step E (at ∷ slice top m path) (λ (i : ℕ). walk E (top - 1) (left_of n d) i (at ∷ slice top m path)) o) (predecessor_some E n d at p s g)
+          ∙ ap (λ (o : Option ℕ). step E (at ∷ slice top m path) (λ (i : ℕ). walk E (top - 1) (left_of n d) i (at ∷ slice top m path)) o)
+          (predecessor_some E n d at p s g)
           ∙ ap (λ (f : List ℕ). cond (any (eqb p) f) (up_to p f) (walk E (top - 1) (left_of n d) p f)) (sym front)
 
       pub stepped_hit : q < m → Stepped E n m top at d path pushed (record { start = top - 1; end = q + 1 })
@@ -153,7 +154,11 @@ module _ (E : ℕ → ℕ → Bool) (n m at : ℕ) (d path : List ℕ) where
           }
 
       pub stepped_on : m ≤ q → (after : List ℕ) (r : Span) → Stepped E n m (top - 1) p d pushed after r → Stepped E n m top at d path after r
-      stepped_on k after r c = record { low = c.low; high = c.high; is = c.is ∙ sym (unrolled ∙ rw (place_miss p pushed m (simp length-set z) (top - 1) q l k) refl) }
+      stepped_on k after r c = record {
+        low = c.low;
+        high = c.high;
+        is = c.is ∙ sym (unrolled ∙ rw (place_miss p pushed m (simp length-set z) (top - 1) q l k) refl);
+      }
 
 -- ---- from the smallest node left
 
@@ -187,7 +192,8 @@ module _ (n : ℕ) (d : List ℕ) (a : ℕ) (s : FirstOf (is_left d) n a) (h : 0
           at (Memᴰ.head q) r g = sym q
           at (Memᴰ.tail q) r g = absurd (omega (arith, rising_above (suc b) l r a q))
 
-  pub walked_first : (E : ℕ → ℕ → Bool) (m : ℕ) (path after : List ℕ) (v : Span) → m ≡ length (left_of n d) → Stepped E n m m a d path after v → Walked E m (left_of n d) after v
+  pub walked_first : (E : ℕ → ℕ → Bool) (m : ℕ) (path after : List ℕ) (v : Span) → m ≡ length (left_of n d) → Stepped E n m m a d path after v
+      → Walked E m (left_of n d) after v
   walked_first E m path after v e c = record { low = c.low; high = c.high; is = c.is ∙ rw (slice_empty m path, e) (go first_head.0 first_head.1) }
     where
       go : (l : List ℕ) → left_of n d ≡ a ∷ l → walk E (length (left_of n d)) (left_of n d) a [] ≡ walked E (left_of n d)

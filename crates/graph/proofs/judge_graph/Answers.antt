@@ -34,4 +34,5 @@ pub returns : goal.returns
 unfolding verdict_at
 returns c =
     let t = c.take_all-taken in
-    answered_cycle _ _ _ _ _ t.ensures _ _ _ c.find_cycle-s.ensures (omega arith) c.if-taken-count.false c.args.nodes.now c.args.answer.now _ c.put_cycle.ensures
+    answered_cycle _ _ _ _ _ t.ensures _ _ _ c.find_cycle-s.ensures (omega arith) c.if-taken-count.false c.args.nodes.now c.args.answer.now _
+    c.put_cycle.ensures

@@ -12,9 +12,11 @@ returns-then-p-count t c =
 pub returns-then-q-end : goal.returns-then-q-end
 returns-then-q-end t c =
     let s = c.predecessor-p.ensures in
-    stepped_hit _ _ _ _ _ _ _ c.if-top-eq0.false (omega arith) (omega arith) _ s (omega (arith, s.within, c.if-p-count.false)) _ c.place_of-q.ensures c.if-q-end.true
+    stepped_hit _ _ _ _ _ _ _ c.if-top-eq0.false (omega arith) (omega arith) _ s (omega (arith, s.within, c.if-p-count.false)) _ c.place_of-q.ensures
+    c.if-q-end.true
 
 pub returns : goal.returns
 returns t c =
     let s = c.predecessor-p.ensures in
-    stepped_on _ _ _ _ _ _ _ c.if-top-eq0.false c.requires.1.1.0 c.requires.1.1.1 _ s (omega (arith, s.within, c.if-p-count.false)) _ c.place_of-q.ensures c.if-q-end.false _ _ c.walk.ensures
+    stepped_on _ _ _ _ _ _ _ c.if-top-eq0.false c.requires.1.1.0 c.requires.1.1.1 _ s (omega (arith, s.within, c.if-p-count.false)) _ c.place_of-q.ensures
+    c.if-q-end.false _ _ c.walk.ensures
