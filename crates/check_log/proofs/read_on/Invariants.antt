@@ -1,0 +1,9 @@
+-- `read_on` is safe and ends: at each turn the room that is left gets less.
+use Rattle.std.proofs.Common.{length, ◌-◌, ◌≤◌}
+use Rattle.check_log.proofs.read_on.Given as goal
+
+abbrev pub invariant-loop-done : goal.invariant-loop-done
+invariant-loop-done g l = l.done ≤ length l.buf
+
+abbrev pub decreases-loop-done : goal.decreases-loop-done
+decreases-loop-done g l = length l.initial.buf - l.done
