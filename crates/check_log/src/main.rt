@@ -2,7 +2,7 @@
 // stamps, each after a space, or `refused`, code and number. A file that is not named, not opened or not read counts as empty.
 #![tactic(auto)]
 
-ghost use Rattle.std.specs.Prelude.{◌≤◌, length};
+ghost use Rattle.std.specs.Prelude.{◌≡◌, ◌≤◌, length, take};
 
 use std::io::Read;
 use std::rt::Files;
@@ -25,7 +25,7 @@ fn read_on<R: Read>(input: &mut R, buf: &mut [u8]) -> usize
 
 // The bytes of a file that fit, and how many: 0 where an argument names none that can be read.
 fn read_file<R: Files>(rt: &R, path: &str, buf: &mut [u8]) -> usize
-    ensures { result ≤ length buf.new }
+    ensures { (result ≤ length buf.new) × (result ≡ length (take result buf.new)) }
 {
     let opened = fs::open(rt, path);
     match opened {

@@ -24,7 +24,8 @@ fn put<W: Write>(to: &mut W, log: &[u8], out: &mut [u8]) -> io::Result<()> {
     told::fill(out);
     let a = checker::write_order(log, out);
     say_answer(to, a)?;
-    told::say(to, told::hash_of_bytes(1, out), b'\n')
+    told::say(to, told::hash_of_bytes(1, out), b'\n')?;
+    to.flush()
 }
 
 // The next number of the input, or its end.

@@ -191,7 +191,7 @@ fn counts_of(front: &[u8; 40]) -> Counts {
     }
 }
 
-// The case that ten numbers begin; its settings are still to be read.
+// The case that ten numbers begin; its settings are still to be read. Its answer is written before the next case is read.
 fn put_case<R: Read, W: Write>(
     input: &mut R,
     out: &mut W,
@@ -201,7 +201,8 @@ fn put_case<R: Read, W: Write>(
     let room = log_reader::be32(front, 16) as usize;
     let tables = read_tables(input, log_reader::be32(front, 20))?;
     let s = state_of(counts_of(front), &tables);
-    put_part(out, s, op_of(front), log, room)
+    put_part(out, s, op_of(front), log, room)?;
+    out.flush()
 }
 
 // A proved loop has to end, and nothing says that the input does, so its turns are as many as no run uses up.

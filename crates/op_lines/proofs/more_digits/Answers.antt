@@ -10,8 +10,11 @@ returns-then-next-gt-MOST c =
 pub loop-at-preserved : goal.loop-at-preserved
 loop-at-preserved c =
     let l = c.loop-at in
-    let m = c.if-next-gt-MOST.false in
-    (omega arith, m, l.invariant.2 ∙ digits_next _ l.n l.at c.loop-at-test.true (sym c.is_digit.ensures ∙ c.if-is_digit.true) m)
+    (
+      omega arith,
+      omega arith,
+      l.invariant.2 ∙ digits_next _ l.n l.at c.loop-at-test.true (sym c.is_digit.ensures ∙ c.if-is_digit.true) (omega arith),
+    )
 
 pub returns-else-is_digit : goal.returns-else-is_digit
 returns-else-is_digit c =
