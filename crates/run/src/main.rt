@@ -161,17 +161,36 @@ fn serve<R: Read, W: Write>(input: &mut R, out: &mut W, log: &mut [u8]) -> io::R
     Ok(o.state.core.used.0)
 }
 
+// Says why a file cannot be opened: the error's words without its number.
+fn say_why<R: Eprint + AllocGlobal>(rt: &R, path: &str, why: io::Error) -> io::Result<()> {
+    let said = format!(in rt.alloc(); "{why}")?;
+    match said.split_once(" (os error ") {
+        Some((words, _)) => eprintln!(rt; "{path}: {words}"),
+        None => eprintln!(rt; "{path}: {said}"),
+    }
+}
+
 // Writes the first bytes of the log to a file; says why the file cannot be opened.
-fn write_file<R: Files + Eprint>(rt: &R, path: &str, log: &[u8], n: usize) -> io::Result<()> {
+fn write_file<R: Files + Eprint + AllocGlobal>(
+    rt: &R,
+    path: &str,
+    log: &[u8],
+    n: usize,
+) -> io::Result<()> {
     let opened = fs::create(rt, path);
     match opened {
         Ok(mut file) => say_first(&mut file, log, n),
-        Err(why) => eprintln!(rt; "{path}: {why}"),
+        Err(why) => say_why(rt, path, why),
     }
 }
 
 // Writes the timestamp order of the log's first bytes to a file, where the log has one.
-fn write_order<R: Files + Eprint>(rt: &R, path: &str, log: &[u8], used: usize) -> io::Result<()> {
+fn write_order<R: Files + Eprint + AllocGlobal>(
+    rt: &R,
+    path: &str,
+    log: &[u8],
+    used: usize,
+) -> io::Result<()> {
     if log.len() < used {
         return Ok(());
     }
