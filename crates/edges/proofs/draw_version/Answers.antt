@@ -6,9 +6,9 @@ use Rattle.edges.proofs.draw_version.Goals as goal
 pub returns-then-p-r : goal.returns-then-p-r
 returns-then-p-r c =
     let h = c.requires in
-    rw c.set_edge.ensures (one_before _ _ _ _ _ _ h.fact_1 h.fact_2 c.if-i-k.false c.if-p-eq0.false (h.fact_4 (omega arith)) c.if-p-r.true)
+    rw c.set_edge.ensures (one_before _ _ _ _ _ _ h.fact_1 h.fact_2 (λ e. omega arith) (λ e. omega arith) (h.fact_4 (omega arith)) c.if-p-r.true)
 
 pub returns-then-r-p : goal.returns-then-r-p
 returns-then-r-p c =
     let h = c.requires in
-    rw c.set_edge-then-r-p.ensures (one_after _ _ _ _ _ _ h.fact_1 h.fact_2 c.if-i-k.false c.if-p-eq0.false h.fact_3 c.if-r-p.true)
+    rw c.set_edge-then-r-p.ensures (one_after _ _ _ _ _ _ h.fact_1 h.fact_2 (λ e. omega arith) (λ e. omega arith) h.fact_3 c.if-r-p.true)

@@ -8,11 +8,11 @@ use Rattle.history.proofs.settle.Goals as goal
 pub returns-in_default : goal.returns-in_default
 returns-in_default c =
     let d = c.decode_at-d in
-    settle_stop c.loop-r.invariant c.requires.1.1 c.if-k-gt-MAX_COMMITTED.false _ (sym d.ensures) (not_field d.result c.in_default.not-Field)
+    settle_stop c.loop-r.invariant c.requires.1.1 (omega arith) _ (sym d.ensures) (not_field d.result c.in_default.not-Field)
 
 pub returns-then-dangling_read : goal.returns-then-dangling_read
 returns-then-dangling_read c =
-    settle_bad c.loop-r.invariant c.requires.1.1 c.if-k-gt-MAX_COMMITTED.false (λ i. (c.type_inv.log i).fits) (sym c.in-Field.ensures)
+    settle_bad c.loop-r.invariant c.requires.1.1 (omega arith) (λ i. (c.type_inv.log i).fits) (sym c.in-Field.ensures)
     (sym c.dangling_read.ensures ∙ c.if-dangling_read.true)
 
 pub loop-r-smaller : goal.loop-r-smaller

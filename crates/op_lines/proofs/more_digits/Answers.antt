@@ -9,8 +9,7 @@ returns-then-next-gt-MOST c =
 
 pub loop-at-preserved : goal.loop-at-preserved
 loop-at-preserved c =
-    let l = c.loop-at in
-    (
+    let l = c.loop-at in (
       omega arith,
       omega arith,
       l.invariant.2 ∙ digits_next _ l.n l.at c.loop-at-test.true (sym c.is_digit.ensures ∙ c.if-is_digit.true) (omega arith),
