@@ -22,8 +22,8 @@ use Rattle.order_rules.proofs.RightLaws.{passes_order}
 use Rattle.version_order.specs.Judging.{Ranked as Judged-as-Ranked}
 use Rattle.drawing.specs.Drawing.{Tables}
 use Rattle.graph.specs.Answer.{Answered, found_of}
-use Rattle.graph.specs.declared.Found.{Found}
-use Rattle.graph.specs.declared.Found.TheVariants.{Accepted as Found-as-Accepted, Cycle as Found-as-Cycle}
+use Rattle.graph.specs.declared.Verdict.{Verdict as Counted}
+use Rattle.graph.specs.declared.Verdict.TheVariants.{Accepted as Verdict-as-Accepted, Cycle as Verdict-as-Cycle}
 use Rattle.checker_rules.specs.Answers.{CheckIs, judged, answer_for, checked_of, stamps_for}
 use Rattle.checker_rules.specs.declared.Checked.{Checked}
 use Rattle.checker_rules.specs.declared.Checked.TheVariants.{Accepted, Cycle, Refused}
@@ -32,9 +32,9 @@ use Rattle.checker.specs.Reads.{GraphIs}
 use Rattle.checker.proofs.RankedLaws.{ranked}
 
 -- what the graph found, as the checker says it
-abbrev pub said_of : Found → Checked
-said_of (Found-as-Accepted n) = Accepted n
-said_of (Found-as-Cycle n) = Cycle n
+abbrev pub said_of : Counted → Checked
+said_of (Verdict-as-Accepted n) = Accepted n
+said_of (Verdict-as-Cycle n) = Cycle n
 
 said_is : (v : Verdict) → said_of (found_of v) ≡ checked_of (judged v)
 said_is (accepted o) = refl
@@ -45,7 +45,7 @@ stamps_are (accepted o) = refl
 stamps_are (cycle c) = refl
 
 -- the buffer with the verdict's stamps and what was found are the checker's answer
-answered_is : (s order b : List ℕ) (v : Verdict) (f : Found) (b' : List ℕ) → answer_for s order (length b) ≡ judged v → Answered v b b' f
+answered_is : (s order b : List ℕ) (v : Verdict) (f : Counted) (b' : List ℕ) → answer_for s order (length b) ≡ judged v → Answered v b b' f
     → CheckIs s order b (said_of f) b'
 answered_is s order b v f b' e a = record {
   answer = ap said_of a.found ∙ said_is v ∙ rw e;
@@ -75,7 +75,7 @@ module _ {s m nodes : List ℕ} {count : ℕ} (r : ReadLog s m nodes count) wher
     no_room_left {b} e l = room_refused s order b r.log r.passes (sym right_is ∙ e) (omega (arith, r.number, l))
 
     -- what the graph found, as the checker says it
-    pub checked : Bytes order → q ≡ true → {b : List ℕ} → 4 * count ≤ length b → {f x : Found} {b' : List ℕ} → GraphIs s nodes rank count b f b'
+    pub checked : Bytes order → q ≡ true → {b : List ℕ} → 4 * count ≤ length b → {f x : Counted} {b' : List ℕ} → GraphIs s nodes rank count b f b'
         → f ≡ x → CheckIs s order b (said_of x) b'
     checked by e {b} l {f} {x} {b'} g h =
         let t : right_order r.log order ≡ true = sym right_is ∙ e in
@@ -83,4 +83,4 @@ module _ {s m nodes : List ℕ} {count : ℕ} (r : ReadLog s m nodes count) wher
         let k' = ranked r.log (vs_of (fields_of order)) nodes rank count r.within r.first (k.ranks e) in
         let j = judged-answer s order b r.log r.passes t (omega (arith, r.number, l)) in
         let a = g.answered r.log (vs_of (fields_of order)) r.passes vo k' in
-        subst (λ (y : Found). CheckIs s order b (said_of y) b') h (answered_is s order b (verdict r.log (vs_of (fields_of order))) f b' j a)
+        subst (λ (y : Counted). CheckIs s order b (said_of y) b') h (answered_is s order b (verdict r.log (vs_of (fields_of order))) f b' j a)

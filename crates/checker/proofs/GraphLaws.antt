@@ -6,11 +6,11 @@ use mathlib.Core.List.{List}
 use Rattle.graph_theory.specs.Verdict.{Verdict}
 use Rattle.drawing.specs.Drawing.{DrewAll}
 use Rattle.graph.specs.Answer.{Answered, verdict_at}
-use Rattle.graph.specs.declared.Found.{Found}
+use Rattle.graph.specs.declared.Verdict.{Verdict as Counted}
 use Rattle.graph.proofs.StampLaws.{drawn_verdict}
 use Rattle.checker.specs.Reads.{GraphIs}
 
-pub graph_is : (s nodes rank : List ℕ) (count : ℕ) (m b b' : List ℕ) (r : Found) → DrewAll s nodes rank count m → Answered (verdict_at m count nodes) b b' r
+pub graph_is : (s nodes rank : List ℕ) (count : ℕ) (m b b' : List ℕ) (r : Counted) → DrewAll s nodes rank count m → Answered (verdict_at m count nodes) b b' r
     → GraphIs s nodes rank count b r b'
 graph_is s nodes rank count m b b' r d a = record {
   answered =

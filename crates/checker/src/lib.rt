@@ -10,7 +10,7 @@ ghost use Rattle.history.specs.Reads.{ReadLog};
 ghost use Rattle.checker.specs.Reads.{GraphIs};
 
 use checker_rules::{Checked, Ordered};
-use graph::Found;
+use graph::Verdict;
 use history::Judged;
 use log_format::Place;
 use order_rules::Written;
@@ -51,7 +51,7 @@ pub fn write_order(log: &[u8], out: &mut [u8]) -> Ordered
 // ---- the verdict
 
 // The verdict on the graph of a log and its order, whose ranks are at hand: its stamps are written at the buffer's front.
-fn check_graph(log: &[u8], nodes: &[u32], count: usize, rank: &[u16], answer: &mut [u8]) -> Found
+fn check_graph(log: &[u8], nodes: &[u32], count: usize, rank: &[u16], answer: &mut [u8]) -> Verdict
     requires { (Tables nodes.now rank.now count) × (4 * count ≤ length answer.old) }
     ensures { GraphIs log.now nodes.now rank.now count answer.old result answer.new }
 {
@@ -81,8 +81,8 @@ fn check_read(
         }
         let f = check_graph(log, nodes, count, &rank, answer);
         match f {
-            Found::Accepted(n) => Checked::Accepted(n),
-            Found::Cycle(n) => Checked::Cycle(n),
+            Verdict::Accepted(n) => Checked::Accepted(n),
+            Verdict::Cycle(n) => Checked::Cycle(n),
         }
     } else {
         Checked::Refused(28, Place(0))

@@ -26,7 +26,7 @@ use Rattle.taking.specs.Taken.{Taken}
 use Rattle.walking.specs.Walked.{part_of, Walked}
 use Rattle.graph.specs.Answer.{AllBelow, Turned, Answered}
 use Rattle.walking.specs.declared.Span.{Span}
-use Rattle.graph.specs.declared.Found.TheVariants.{Accepted, Cycle as Ring}
+use Rattle.graph.specs.declared.Verdict.TheVariants.{Accepted, Cycle as Ring}
 use Rattle.taking.proofs.NodesLaws.{index_below, up_from_rising, left_in}
 use Rattle.taking.proofs.TakenLaws.{empty}
 use Rattle.graph.proofs.AnswerLaws.{node_bytes, in_slice, turn_least}

@@ -7,11 +7,11 @@ use Rattle.graph_theory.specs.Verdict.{Verdict, accepted, cycle, stamps_of, verd
 use Rattle.graph_theory.specs.Standing.{renamed}
 use Rattle.edges.specs.Matrix.{edge_at}
 use Rattle.taking.specs.Nodes.{indices}
-use Rattle.graph.specs.declared.Found.{Found}
-use Rattle.graph.specs.declared.Found.TheVariants.{Accepted, Cycle}
+use Rattle.graph.specs.declared.Verdict.{Verdict as Counted}
+use Rattle.graph.specs.declared.Verdict.TheVariants.{Accepted, Cycle}
 
 -- how many stamps an answer has
-abbrev pub found_number : Found → ℕ
+abbrev pub found_number : Counted → ℕ
 found_number (Accepted n) = n
 found_number (Cycle n) = n
 
@@ -41,11 +41,11 @@ unfoldable pub verdict_at : List ℕ → ℕ → List ℕ → Verdict
 verdict_at m count nodes = renamed (λ (k : ℕ). get_or nodes k 0) (verdict_of (edge_at m) (indices count))
 
 -- a verdict as an answer: which, and how many stamps
-abbrev pub found_of : Verdict → Found
+abbrev pub found_of : Verdict → Counted
 found_of (accepted o) = Accepted (length o)
 found_of (cycle c) = Cycle (length c)
 
 -- the answer is the verdict's, the verdict's stamps stand at the front of `after`, and every other byte is that of `answer`
-pub record Answered (v : Verdict) (answer after : List ℕ) (r : Found) : Type 0 where
+pub record Answered (v : Verdict) (answer after : List ℕ) (r : Counted) : Type 0 where
   pub found : r ≡ found_of v
   pub bytes : after ≡ splice answer 0 (stamp_bytes (stamps_of v))

@@ -14,8 +14,8 @@ use taking::take_all;
 use walking::{find_cycle, wide};
 
 // What the graph answers, with the number of stamps written: all nodes were taken, or there is a cycle.
-#[derive(Clone, Copy)]
-pub enum Found {
+#[derive(Clone, Copy, Debug, PartialEq, Eq)]
+pub enum Verdict {
     Accepted(usize),
     Cycle(usize),
 }
@@ -81,7 +81,7 @@ pub fn judge_graph(
     deg: &mut [u16],
     path: &mut [u16],
     answer: &mut [u8],
-) -> Found
+) -> Verdict
     requires fact_1 { Rooms mat.now deg.old count }
     requires fact_2 { count ≤ length nodes.now }
     requires fact_3 { count ≤ length path.old }
@@ -91,11 +91,11 @@ pub fn judge_graph(
     let taken = take_all(mat, count, deg, path);
     if taken == count {
         put_stamps(nodes, path, 0, count, answer, 0);
-        return Found::Accepted(count);
+        return Verdict::Accepted(count);
     }
     let s = find_cycle(mat, deg, count, count - taken, path);
     let start = s.start;
     let end = s.end;
     put_cycle(nodes, path, start, end, answer);
-    Found::Cycle(end - start)
+    Verdict::Cycle(end - start)
 }
