@@ -9,11 +9,11 @@ use lib.ListN.{length, length-replicate}
 use Rattle.lists.specs.Member.{◌∈◌}
 use Rattle.lists.proofs.OrderLaws.{in_nil, in_reverse, of_reverse}
 use Rattle.log_format.specs.Bytes.{Bytes}
-use Rattle.log_format.specs.Fields.{decode_at, found, NoField}
+use Rattle.log_format.specs.Fields.{decode_at, found}
 use Rattle.log_format.specs.Events.{Event, event_of}
 use Rattle.log_format.specs.declared.Record.{Record}
-use Rattle.log_format.specs.declared.Decoded.{Decoded}
-use Rattle.log_format.specs.declared.Decoded.TheVariants.{Field, End, Bad}
+use Rattle.log_format.specs.declared.BadField.{BadField}
+use Rattle.std.specs.Prelude.{Ok, Err, None}
 use Rattle.history_rules.specs.History.{fields_from, events_in, passed, history_of}
 use Rattle.history_rules.proofs.FieldSteps.{step_field, step_end, step_bad, placed_events}
 use Rattle.history_rules.proofs.FoundAnswers.{whole_fields}
@@ -64,10 +64,11 @@ module _ (s nodes rank : List ℕ) (count : ℕ) (m : List ℕ) where
           )) (g.edges log vs h vo r);
     }
 
-    pub drawing_stop : (d : Decoded) → decode_at s at ≡ d → NoField d → DrewAll s nodes rank count m
-    drawing_stop (Field r p) e o = absurd o
-    drawing_stop End e o = drawing_end (ap events_in (step_end s at e))
-    drawing_stop (Bad p) e o = drawing_end (ap events_in (step_bad s at p e))
+    pub drawing_all : decode_at s at ≡ Ok None → DrewAll s nodes rank count m
+    drawing_all e = drawing_end (ap events_in (step_end s at e))
+
+    pub drawing_broken : (x : BadField) → decode_at s at ≡ Err x → DrewAll s nodes rank count m
+    drawing_broken x e = drawing_end (ap events_in (step_bad s at x e))
 
     pub drawing_next : (r : Record) (n : ℕ) → decode_at s at ≡ found r n → (m' : List ℕ) → DrewEvent nodes rank count (event_of r) m m'
         → Drawing s nodes rank count m' n

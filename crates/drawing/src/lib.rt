@@ -7,7 +7,7 @@ ghost use Rattle.log_format.specs.Events.{event_of};
 ghost use Rattle.edges.specs.Matrix.{matrix_size};
 ghost use Rattle.drawing.specs.Drawing.{Tables, DrewEvent, Drawable, DrewAll};
 
-use log_format::{Decoded, Place, Record};
+use log_format::{Place, Record};
 
 // The largest item, as a record has it.
 const MAX_ITEM: u8 = numbers::MAX_ITEM as u8;
@@ -43,13 +43,9 @@ pub fn draw_log(log: &[u8], nodes: &[u32], count: usize, rank: &[u16], mat: &mut
     requires { Drawable nodes.now rank.now count mat.old }
     ensures { DrewAll log.now nodes.now rank.now count mat.new }
 {
-    let mut at: usize = Place::FIRST;
-    loop {
-        let d = log_reader::field_at(log, at);
-        let Decoded::Field(r, p) = d else {
-            return;
-        };
-        draw_record(mat, nodes, count, rank, r);
-        at = p.0;
+    let mut at = Place(Place::FIRST);
+    while let Ok(Some((record, next))) = log_reader::decode_at(log, at) {
+        draw_record(mat, nodes, count, rank, record);
+        at = next;
     }
 }

@@ -15,12 +15,12 @@ use Rattle.lists.specs.Order.{insert}
 use Rattle.lists.proofs.OrderLaws.{in_nil}
 use Rattle.lists.proofs.RisingLaws.{insert_rising, in_insert, of_insert, rising_same}
 use Rattle.log_format.specs.Bytes.{Bytes}
-use Rattle.log_format.specs.Fields.{decode_at, found, NoField}
+use Rattle.log_format.specs.Fields.{decode_at, found}
 use Rattle.log_format.specs.Events.{Event, begins, reads, writes, commits, aborts, event_of}
 use Rattle.log_format.specs.Told.{Done}
 use Rattle.log_format.specs.declared.Record.{Record}
-use Rattle.log_format.specs.declared.Decoded.{Decoded}
-use Rattle.log_format.specs.declared.Decoded.TheVariants.{Field, End, Bad}
+use Rattle.log_format.specs.declared.BadField.{BadField}
+use Rattle.std.specs.Prelude.{Ok, Err, None}
 use Rattle.log_format.proofs.Reading.{progress, header_long}
 use Rattle.history_rules.specs.WellFormed.{most_committed, is_commit, count_commits}
 use Rattle.history_rules.specs.History.{fields_from, events_in, passed, history_of}
@@ -121,10 +121,11 @@ module _ (s a b : List ℕ) (at n : ℕ) (w : most_committed ≤ length a) (g : 
       let l : length (take n b) ≡ n = length-take-le n b (omega (arith, g.size, g.room)) in
       record { first = f; count = λ log h. sym l ∙ ap length (f log h); rest = g.rest }
 
-  pub gather_stop : (d : Decoded) → decode_at s at ≡ d → NoField d → Nodes s a b n
-  gather_stop (Field r p) e o = absurd o
-  gather_stop End e o = gather_end (ap events_in (step_end s at e))
-  gather_stop (Bad p) e o = gather_end (ap events_in (step_bad s at p e))
+  pub gather_all : decode_at s at ≡ Ok None → Nodes s a b n
+  gather_all e = gather_end (ap events_in (step_end s at e))
+
+  pub gather_broken : (x : BadField) → decode_at s at ≡ Err x → Nodes s a b n
+  gather_broken x e = gather_end (ap events_in (step_bad s at x e))
 
   module _ (bs : Bytes s) (r : Record) (m : ℕ) (e : decode_at s at ≡ found r m) where
     coming : n + (is_commit (event_of r) + count_commits (events_in (fields_from s m))) ≤ most_committed

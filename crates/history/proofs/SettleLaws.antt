@@ -9,12 +9,12 @@ use lib.ListN.{length}
 use lib.Dec.{leb, ltb}
 use borrow.Author.Tests.{leb-true, lt-ltb, le-ltb}
 use Rattle.log_format.specs.Bytes.{Bytes}
-use Rattle.log_format.specs.Fields.{decode_at, found, NoField}
+use Rattle.log_format.specs.Fields.{decode_at, found}
 use Rattle.log_format.specs.Whole.{max_log, header_ok}
 use Rattle.log_format.specs.Events.{Event, event_of}
 use Rattle.log_format.specs.declared.Record.{Record}
-use Rattle.log_format.specs.declared.Decoded.{Decoded}
-use Rattle.log_format.specs.declared.Decoded.TheVariants.{Field, End, Bad}
+use Rattle.log_format.specs.declared.BadField.{BadField}
+use Rattle.std.specs.Prelude.{Ok, Err, None}
 use Rattle.log_format.proofs.Reading.{progress}
 use Rattle.log_format.proofs.WholeLaws.{both}
 use Rattle.history_rules.specs.WellFormed.{most_committed, count_commits}
@@ -49,11 +49,14 @@ module _ {s : List ℕ} {st : ℕ → ℕ} {at : ℕ} (i : Settling s st at) whe
     ends a e = rw (← g, le-ltb most_committed k few) (sym (ap judged_of (i.rest ∙ e)))
 
     -- none dangles
-    pub settle_stop : (d : Decoded) → decode_at s at ≡ d → NoField d → Passed k ≡ later st (fields_from s 4)
+    pub settle_end : decode_at s at ≡ Ok None → Passed k ≡ later st (fields_from s 4)
     unfolding settled
-    settle_stop (Field r p) e o = absurd o
-    settle_stop End e o = ap Passed g ∙ ends (passed (events_in (fields_from s 4))) (rw (step_end s at e))
-    settle_stop (Bad p) e o = ap Passed g ∙ ends (passed (events_in (fields_from s 4))) (rw (step_bad s at p e))
+    settle_end e = ap Passed g ∙ ends (passed (events_in (fields_from s 4))) (rw (step_end s at e))
+
+    -- the same, where no record stands
+    pub settle_broken : (x : BadField) → decode_at s at ≡ Err x → Passed k ≡ later st (fields_from s 4)
+    unfolding settled
+    settle_broken x e = ap Passed g ∙ ends (passed (events_in (fields_from s 4))) (rw (step_bad s at x e))
 
     -- this one does
     pub settle_bad : Bytes s → {r : Record} {m : ℕ} → decode_at s at ≡ found r m → dangling st (event_of r) ≡ true

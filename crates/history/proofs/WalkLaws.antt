@@ -12,12 +12,12 @@ use lib.ListN.{length}
 use lib.Dec.{eqb, ltb}
 use borrow.Author.Tests.{eq-eqb, ne_eqb, ltb-false}
 use Rattle.log_format.specs.Bytes.{Bytes}
-use Rattle.log_format.specs.Fields.{decode_at, found, NoField}
+use Rattle.log_format.specs.Fields.{decode_at, found}
 use Rattle.log_format.specs.Whole.{max_log}
 use Rattle.log_format.specs.Events.{Event, begins, reads, writes, commits, aborts, event_of}
 use Rattle.log_format.specs.declared.Record.{Record}
-use Rattle.log_format.specs.declared.Decoded.{Decoded}
-use Rattle.log_format.specs.declared.Decoded.TheVariants.{Field, End, Bad}
+use Rattle.log_format.specs.declared.BadField.{BadField}
+use Rattle.std.specs.Prelude.{Ok, Err, None}
 use Rattle.log_format.proofs.Reading.{progress}
 use Rattle.history_rules.specs.WellFormed.{most_item, is_commit, count_commits}
 use Rattle.history_rules.specs.Faults.{idle, fault_by, fault}
@@ -28,8 +28,8 @@ use Rattle.history_rules.proofs.HeldLaws.{holds_none, holds_more, fault_same}
 use Rattle.index.specs.Index.{max_rows, table_of, Table, Room}
 use Rattle.index.proofs.RowLaws.{room_fewer}
 use Rattle.transactions.specs.Transactions.{fault_in, Noted}
-use Rattle.history.specs.declared.Judged.TheVariants.{Refused}
-use Rattle.history.specs.Judging.{Lent, stopped_with, Walked}
+use Rattle.history.specs.declared.Judged.TheVariants.{Passed, Refused}
+use Rattle.history.specs.Judging.{Lent, Walked}
 
 -- ---- a record without a fault can be noted
 
@@ -80,15 +80,18 @@ walk_start {s} {m} t l = record {
 }
 
 module _ {s m : List ℕ} {z at k : ℕ} (i : Walking s m z at k) where
-  -- no record stands there
-  pub walk_stop : (d : Decoded) → decode_at s at ≡ d → NoField d → Walked s m (stopped_with d k)
+  -- no field is left
+  pub walk_end : decode_at s at ≡ Ok None → Walked s m (Passed k)
   unfolding scanned
-  walk_stop (Field r p) e o = absurd o
-  walk_stop End e o = record {
+  walk_end e = record {
     table = i.table;
     is = (i.past, i.rest ∙ rw (step_end s at e), sym (i.count ∙ rw (step_end s at e, add-zero)), i.holds);
   }
-  walk_stop (Bad p) e o = record { table = i.table; is = i.rest ∙ rw (step_bad s at p e) }
+
+  -- no record stands there
+  pub walk_broken : (x : BadField) → decode_at s at ≡ Err x → Walked s m (Refused 22 x.0)
+  unfolding scanned
+  walk_broken x e = record { table = i.table; is = i.rest ∙ rw (step_bad s at x e) }
 
   module _ (b : Bytes s) {r : Record} {n : ℕ} (e : decode_at s at ≡ found r n) {c : ℕ} (f : c ≡ fault_in (table_of m) (event_of r)) where
     one : scanned [] (fields_from s 4) ≡ cond (eqb c 0) (scanned (event_of r ∷ i.past) (fields_from s n)) (wrong c at)

@@ -2,8 +2,6 @@
 -- Assumes nothing.
 use Rattle.std.specs.Prelude.{ℕ, ◌≡◌, List, [], reverse, cond, ltb}
 use Rattle.log_format.specs.Events.{Event}
-use Rattle.log_format.specs.declared.Decoded.{Decoded}
-use Rattle.log_format.specs.declared.Decoded.TheVariants.{Field, End, Bad}
 use Rattle.history_rules.specs.WellFormed.{most_committed, count_commits}
 use Rattle.history_rules.specs.History.{Entry, fields_from, events_in, wrong, right, scanned, History, passed, refused, settled, history_of}
 use Rattle.history_rules.specs.Held.{Holds}
@@ -37,12 +35,6 @@ pub record Lent (m : List ℕ) : Type 0 where
   pub room : Room max_rows m
 
 -- ---- the first walk
-
--- what is said where d, which is no record, stands next: k commits where no field is bad
-abbrev pub stopped_with : Decoded → ℕ → Judged
-stopped_with (Field r p) k = Passed k
-stopped_with End k = Passed k
-stopped_with (Bad p) k = Refused 22 p
 
 -- all fields are right, k commit, and the table has their events; or the first bad field
 abbrev pub Walk : List Entry → (ℕ → ℕ) → Judged → Type 0

@@ -12,11 +12,11 @@ ghost use Rattle.history_rules.specs.WellFormed.{most_committed, is_commit, coun
 ghost use Rattle.history_rules.specs.History.{events_in, fields_from, dangling};
 ghost use Rattle.history_rules.specs.Held.{stage_in};
 ghost use Rattle.index.specs.Index.{table_of, Table};
-ghost use Rattle.history.specs.Judging.{stopped_with, Lent, Walked, later, Judgement};
+ghost use Rattle.history.specs.Judging.{Lent, Walked, later, Judgement};
 ghost use Rattle.history.specs.Nodes.{Passes, WithCommit, Nodes};
 ghost use Rattle.history.specs.Reads.{ReadIs};
 
-use log_format::{Decoded, Place, Record};
+use log_format::{Place, Record};
 
 // A log judged as far as codes 21 to 27 go: it passes, and so many transactions committed; or a code, and the place beside it.
 #[derive(Clone, Copy)]
@@ -49,17 +49,6 @@ fn commits_in(r: Record) -> usize
     }
 }
 
-// What is said where no further record stands, after k commits: all fields are right, or a broken one is handed up with its place.
-fn stopped(d: Decoded, k: usize) -> Judged
-    ensures { result ≡ stopped_with d k }
-{
-    match d {
-        Decoded::Field(_, _) => Judged::Passed(k),
-        Decoded::End => Judged::Passed(k),
-        Decoded::Bad(p) => Judged::Refused(22, p),
-    }
-}
-
 // The first bad field with its code, or how many commit; the map then has every record noted.
 fn walk(log: &[u8], map: &mut [u64]) -> Judged
     requires { (Lent map.old) × ((4 ≤ length log.now) × (length log.now ≤ max_log)) }
@@ -68,9 +57,12 @@ fn walk(log: &[u8], map: &mut [u64]) -> Judged
     let mut at: usize = Place::FIRST;
     let mut k: usize = 0;
     loop {
-        let d = log_reader::decode_at(log, Place(at));
-        let Decoded::Field(r, p) = d else {
-            return stopped(d, k);
+        let field = match log_reader::decode_at(log, Place(at)) {
+            Ok(field) => field,
+            Err(bad) => return Judged::Refused(22, bad.0),
+        };
+        let Some((r, p)) = field else {
+            return Judged::Passed(k);
         };
         let c = transactions::fault(map, r);
         if c != 0 {
@@ -117,8 +109,7 @@ fn settle(log: &[u8], map: &[u64], k: usize) -> Judged
     }
     let mut at: usize = Place::FIRST;
     loop {
-        let d = log_reader::decode_at(log, Place(at));
-        let Decoded::Field(r, p) = d else {
+        let Ok(Some((r, p))) = log_reader::decode_at(log, Place(at)) else {
             return Judged::Passed(k);
         };
         if dangling_read(map, r) {
@@ -166,8 +157,7 @@ fn gather(log: &[u8], nodes: &mut [u32]) -> usize
     let mut at: usize = Place::FIRST;
     let mut n: usize = 0;
     loop {
-        let d = log_reader::decode_at(log, Place(at));
-        let Decoded::Field(r, p) = d else {
+        let Ok(Some((r, p))) = log_reader::decode_at(log, Place(at)) else {
             return n;
         };
         n = with_commit(nodes, n, r);

@@ -9,13 +9,12 @@ use mathlib.Core.List.{List, [], ◌∷◌, ◌++◌, map, append_assoc}
 use lib.ListN.{length, drop, length-append}
 use lib.Seq.{drop-drop, drop-append_seam}
 use Rattle.log_format.specs.Bytes.{Bytes}
-use Rattle.log_format.specs.Fields.{encode, decode_at, found}
+use Rattle.log_format.specs.Fields.{Decoded, encode, decode_at, found}
 use Rattle.log_format.specs.Whole.{write_all, Good}
 use Rattle.log_format.specs.Events.{event_of}
 use Rattle.log_format.specs.declared.Record.{Record}
-use Rattle.log_format.specs.declared.Place.{Place}
-use Rattle.log_format.specs.declared.Decoded.{Decoded}
-use Rattle.log_format.specs.declared.Decoded.TheVariants.{Field, End, Bad}
+use Rattle.log_format.specs.declared.BadField.{BadField}
+use Rattle.std.specs.Prelude.{Ok, Err, Some, None}
 use Rattle.log_format.proofs.Reading.{progress}
 use Rattle.log_format.proofs.RoundTrip.{decode_encode}
 use Rattle.history_rules.specs.History.{Entry, good, broken, following, fields_at, fields_from, events_in}
@@ -24,11 +23,11 @@ module _ (s : List ℕ) (b : Bytes s) where
   same_following : (k m at : ℕ) → length s - at < suc k → length s - at < suc m
       → ((n : ℕ) → length s - n < k → length s - n < m → fields_at k s n ≡ fields_at m s n) → (d : Decoded) → decode_at s at ≡ d
       → following (fields_at k s) at d ≡ following (fields_at m s) at d
-  same_following k m at h g ih (Field r p) e =
+  same_following k m at h g ih (Ok (Some (r, p))) e =
       let t = progress s b at r p.0 e in
       rw (ih p.0 (omega arith) (omega arith))
-  same_following k m at h g ih End e = refl
-  same_following k m at h g ih (Bad p) e = refl
+  same_following k m at h g ih (Ok None) e = refl
+  same_following k m at h g ih (Err p) e = refl
 
   stable : (k m at : ℕ) → length s - at < k → length s - at < m → fields_at k s at ≡ fields_at m s at
   unfolding fields_at
@@ -44,14 +43,14 @@ module _ (s : List ℕ) (b : Bytes s) where
       rw e (ap (λ l. good at r ∷ l) (stable (length s - at) (suc (length s - n)) n (omega arith) (omega arith)))
 
 -- the end: no field
-pub step_end : (s : List ℕ) (at : ℕ) → decode_at s at ≡ End → fields_from s at ≡ []
+pub step_end : (s : List ℕ) (at : ℕ) → decode_at s at ≡ Ok None → fields_from s at ≡ []
 unfolding fields_from fields_at
 step_end s at e = rw e
 
 -- a bad field is the last
-pub step_bad : (s : List ℕ) (at : ℕ) (p : Place) → decode_at s at ≡ Bad p → fields_from s at ≡ broken p.0 ∷ []
+pub step_bad : (s : List ℕ) (at : ℕ) (b : BadField) → decode_at s at ≡ Err b → fields_from s at ≡ broken b.0.0 ∷ []
 unfolding fields_from fields_at
-step_bad s at p e = rw e
+step_bad s at b e = rw e
 
 -- ---- records with their places
 

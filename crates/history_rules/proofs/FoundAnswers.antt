@@ -12,12 +12,11 @@ use lib.ListN.{length, drop, length-drop, take-append-drop, drop_of_length-le}
 use borrow.Author.Tests.{lt-ltb, le-ltb}
 use Rattle.lists.specs.Member.{◌∈◌}
 use Rattle.log_format.specs.Bytes.{Bytes}
-use Rattle.log_format.specs.Fields.{decode_at, bad}
+use Rattle.log_format.specs.Fields.{Decoded, decode_at, bad}
 use Rattle.log_format.specs.Whole.{records, no_log, before, header_ok, fields, log_read, write_all, log_of}
 use Rattle.log_format.specs.Events.{event_of}
 use Rattle.log_format.specs.declared.Record.{Record}
-use Rattle.log_format.specs.declared.Decoded.{Decoded}
-use Rattle.log_format.specs.declared.Decoded.TheVariants.{Field, End, Bad}
+use Rattle.std.specs.Prelude.{Ok, Err, Some, None}
 use Rattle.log_format.proofs.DecodeCases.{ended, at_end, decoded_bad}
 use Rattle.log_format.proofs.RoundTrip.{encode_decode, decode_fits, stands_decode}
 use Rattle.log_format.proofs.WholeLaws.{header_is, is_header, read-write, read_good}
@@ -59,9 +58,9 @@ module _ (s : List ℕ) (b : Bytes s) where
   broken_bad p k = go (decode_at s p) refl
     where
       go : (d : Decoded) → decode_at s p ≡ d → decode_at s p ≡ bad p
-      go (Field r n) e = absurd (k.none r n.0 (decode_fits s b p r n.0 e) (encode_decode s b p r n.0 e))
-      go End e = let l = k.more in absurd (omega (arith, length-drop p s, ap length (ended s p e)))
-      go (Bad q) e = e ∙ ap Bad (decoded_bad s p q e)
+      go (Ok (Some (r, n))) e = absurd (k.none r n.0 (decode_fits s b p r n.0 e) (encode_decode s b p r n.0 e))
+      go (Ok None) e = let l = k.more in absurd (omega (arith, length-drop p s, ap length (ended s p e)))
+      go (Err q) e = e ∙ ap Err (decoded_bad s p q e)
 
 -- ---- what going through the fields answers
 
@@ -146,7 +145,7 @@ module _ (s : List ℕ) (b : Bytes s) where
   stopped : (before : List Record) → AllRight [] (map event_of before) → (p c : ℕ) → BadAt s p (map event_of before) c
       → scanned (reverse (map event_of before)) (fields_from s p) ≡ wrong c p
   unfolding scanned
-  stopped before ok p c (no_record k) = rw (step_bad s p (record { 0 = p }) (broken_bad s b p k))
+  stopped before ok p c (no_record k) = rw (step_bad s p (record { 0 = record { 0 = p } }) (broken_bad s b p k))
   stopped before ok p c (no_right r n ft st nz l) =
       rw (step_field s b p r n (stands_decode s b p r n ft st))
       (scan_stop _ (seen before ok) p r (fields_from s n) c nz (same_lowest (retells_reverse (map event_of before)) (retells_straight (map event_of before)) l))

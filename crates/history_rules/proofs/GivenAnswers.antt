@@ -10,13 +10,12 @@ use mathlib.Core.Bool.{Bool, true}
 use lib.ListN.{length, take, drop, length-append, length-drop, take-append-drop, drop_of_length-le}
 use lib.Seq.{take-append_seam, drop-append_seam}
 use Rattle.log_format.specs.Bytes.{Bytes}
-use Rattle.log_format.specs.Fields.{encode, cause_ok, Fits, decode_at, bad}
+use Rattle.log_format.specs.Fields.{Decoded, encode, cause_ok, Fits, decode_at, bad}
 use Rattle.log_format.specs.Whole.{Parsed, records, no_log, bad_field, fields, log_read, write_all, log_of, Good}
 use Rattle.log_format.specs.Whole as whole
 use Rattle.log_format.specs.Events.{Event, event_of}
 use Rattle.log_format.specs.declared.Record.{Record}
-use Rattle.log_format.specs.declared.Decoded.{Decoded}
-use Rattle.log_format.specs.declared.Decoded.TheVariants.{Field, End, Bad}
+use Rattle.std.specs.Prelude.{Ok, Err, Some, None}
 use Rattle.log_format.proofs.DecodeCases.{at_end}
 use Rattle.log_format.proofs.RoundTrip.{decode_encode, encode_decode, bad_none}
 use Rattle.log_format.proofs.WholeLaws.{is_header, read-write, read_good, first-bad}
@@ -122,9 +121,9 @@ no_no_log (suc k) s at = go (decode_at s at) (λ n. no_no_log k s n)
     with r (bad_field p) n e = let z : ◌≡◌ {A = ℕ} 0 1 = cc in omega arith
 
     go : (d : Decoded) → ((n : ℕ) → fields k s n ≢ no_log) → whole.after (fields k s) d ≢ no_log
-    go (Field r p) ih = with r (fields k s p.0) (ih p.0)
-    go End ih = λ e. let z : ◌≡◌ {A = ℕ} 0 1 = cc in omega arith
-    go (Bad p) ih = λ e. let z : ◌≡◌ {A = ℕ} 0 1 = cc in omega arith
+    go (Ok (Some (r, p))) ih = with r (fields k s p.0) (ih p.0)
+    go (Ok None) ih = λ e. let z : ◌≡◌ {A = ℕ} 0 1 = cc in omega arith
+    go (Err b) ih = λ e. let z : ◌≡◌ {A = ℕ} 0 1 = cc in omega arith
 
 module _ (s : List ℕ) (b : Bytes s) (hd : Headed s) where
   reads_some : log_read s ≢ no_log

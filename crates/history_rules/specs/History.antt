@@ -1,12 +1,10 @@
 -- What the checker answers for a log as far as codes 21 to 27 go: field by field the first bad one, then 26, then 27.
 -- Assumes nothing.
-use Rattle.std.specs.Prelude.{ℕ, zero, suc, ◌-◌, List, [], ◌∷◌, Bool, false, cond, ◌&&◌, length, ltb, eqb}
-use Rattle.log_format.specs.Fields.{decode_at}
+use Rattle.std.specs.Prelude.{ℕ, zero, suc, ◌-◌, List, [], ◌∷◌, Bool, false, cond, ◌&&◌, length, ltb, eqb, Ok, Err, Some, None}
+use Rattle.log_format.specs.Fields.{Decoded, decode_at}
 use Rattle.log_format.specs.Whole.{header_ok}
 use Rattle.log_format.specs.Events.{Event, begins, reads, writes, commits, aborts, event_of}
 use Rattle.log_format.specs.declared.Record.{Record}
-use Rattle.log_format.specs.declared.Decoded.{Decoded}
-use Rattle.log_format.specs.declared.Decoded.TheVariants.{Field, End, Bad}
 use Rattle.history_rules.specs.WellFormed.{most_committed, count_commits}
 use Rattle.history_rules.specs.Faults.{committed, stage, differ, fault}
 
@@ -19,9 +17,9 @@ pub data Entry : Type 0 where
 
 -- one field, and what f finds from the next place on
 abbrev pub following : (ℕ → List Entry) → ℕ → Decoded → List Entry
-following f at (Field r next) = good at r ∷ f next.0
-following f at End = []
-following f at (Bad p) = broken p.0 ∷ []
+following f at (Ok (Some (r, next))) = good at r ∷ f next.0
+following f at (Ok None) = []
+following f at (Err b) = broken b.0.0 ∷ []
 
 -- at most k fields from a place on
 unfoldable pub fields_at : ℕ → List ℕ → ℕ → List Entry

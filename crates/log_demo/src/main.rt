@@ -2,182 +2,109 @@
 // field and a damaged header answer. The expected output is written by hand from document 01.
 #![tactic(auto)]
 
-use log_format::{Added, Decoded, Form, Place, Record, Stamp};
+use log_format::{AppendError, FormError, Place, Record, Stamp};
 use std::io;
 
-fn say(rt: &impl Print, word: &str) -> io::Result<()> {
-    print!(rt; "{word}")
-}
-
-// A number after a space.
-fn number(rt: &impl Print, n: u64) -> io::Result<()> {
-    print!(rt; " {n}")
-}
-
-fn say_read(rt: &impl Print, stamp: Stamp, item: u8, version: Stamp, value: u32) -> io::Result<()> {
-    say(rt, " read")?;
-    number(rt, stamp.0 as u64)?;
-    number(rt, item as u64)?;
-    number(rt, version.0 as u64)?;
-    number(rt, value as u64)
-}
-
-fn say_write(rt: &impl Print, stamp: Stamp, item: u8, value: u32) -> io::Result<()> {
-    say(rt, " write")?;
-    number(rt, stamp.0 as u64)?;
-    number(rt, item as u64)?;
-    number(rt, value as u64)
-}
-
-fn say_record(rt: &impl Print, r: Record) -> io::Result<()> {
-    match r {
-        Record::Begin(stamp) => {
-            say(rt, " begin")?;
-            number(rt, stamp.0 as u64)?;
-        }
+// A record with its place, as a line of the output.
+fn print_record(rt: &impl Print, at: Place, record: Record) -> io::Result<()> {
+    print!(rt; "{}", at.0)?;
+    match record {
+        Record::Begin(stamp) => println!(rt; " begin {}", stamp.0),
         Record::Read {
             stamp,
             item,
             version,
             value,
-        } => say_read(rt, stamp, item, version, value)?,
-        Record::Write { stamp, item, value } => say_write(rt, stamp, item, value)?,
-        Record::Commit(stamp) => {
-            say(rt, " commit")?;
-            number(rt, stamp.0 as u64)?;
-        }
-        Record::Abort { stamp, cause } => {
-            say(rt, " abort")?;
-            number(rt, stamp.0 as u64)?;
-            number(rt, cause as u64)?;
-        }
-    }
-    say(rt, "\n")
-}
-
-// The bytes used after a record was added; a refusal is printed and leaves them.
-fn used_after(rt: &impl Print, used: Place, a: Added) -> io::Result<Place> {
-    match a {
-        Added::Done(next) => Ok(next),
-        Added::BadCause => {
-            say(rt, "no 2\n")?;
-            Ok(used)
-        }
-        Added::NoRoom => {
-            say(rt, "no 10\n")?;
-            Ok(used)
-        }
+        } => println!(rt; " read {} {item} {} {value}", stamp.0, version.0),
+        Record::Write { stamp, item, value } => println!(rt; " write {} {item} {value}", stamp.0),
+        Record::Commit(stamp) => println!(rt; " commit {}", stamp.0),
+        Record::Abort { stamp, cause } => println!(rt; " abort {} {cause}", stamp.0),
     }
 }
 
-fn add(rt: &impl Print, log: &mut [u8], used: Place, r: Record) -> io::Result<Place> {
-    let a = log_writer::append(log, used, r);
-    used_after(rt, used, a)
+// The bytes used after a call that adds to a log; a refusal is printed and leaves them.
+fn used_after(
+    rt: &impl Print,
+    used: Place,
+    added: Result<Place, AppendError>,
+) -> io::Result<Place> {
+    let code = match added {
+        Ok(next) => return Ok(next),
+        Err(AppendError::BadCause) => 2,
+        Err(AppendError::NoRoom) => 10,
+    };
+    println!(rt; "no {code}")?;
+    Ok(used)
 }
 
-// One record of each kind, and a second abort.
+fn add(rt: &impl Print, log: &mut [u8], used: Place, record: Record) -> io::Result<Place> {
+    let added = log_writer::append(log, used, record);
+    used_after(rt, used, added)
+}
+
+// One record of each kind, and a second abort, whose cause is refused.
 fn fill(rt: &impl Print, log: &mut [u8], used: Place) -> io::Result<Place> {
-    let mut at = add(rt, log, used, Record::Begin(Stamp(4294967295)))?;
-    let write = Record::Write {
-        stamp: Stamp(10),
-        item: 63,
-        value: 305419896,
-    };
-    at = add(rt, log, at, write)?;
-    let read = Record::Read {
-        stamp: Stamp(20),
-        item: 1,
-        version: Stamp(10),
-        value: 7,
-    };
-    at = add(rt, log, at, read)?;
-    at = add(rt, log, at, Record::Commit(Stamp(258)))?;
-    at = add(
-        rt,
-        log,
-        at,
-        Record::Abort {
-            stamp: Stamp(30),
-            cause: 1,
+    let stamp = Stamp(30);
+    let records = [
+        Record::Begin(Stamp(4294967295)),
+        Record::Write {
+            stamp: Stamp(10),
+            item: 63,
+            value: 305419896,
         },
-    )?;
-    add(
-        rt,
-        log,
-        at,
-        Record::Abort {
-            stamp: Stamp(30),
-            cause: 2,
+        Record::Read {
+            stamp: Stamp(20),
+            item: 1,
+            version: Stamp(10),
+            value: 7,
         },
-    )
-}
-
-fn say_form(rt: &impl Print, f: Form) -> io::Result<usize> {
-    match f {
-        Form::Records(n) => {
-            say(rt, "records")?;
-            number(rt, n as u64)?;
-            say(rt, "\n")?;
-            Ok(n)
-        }
-        Form::NoLog => {
-            say(rt, "refused 21 0\n")?;
-            Ok(0)
-        }
-        Form::BadField(place) => {
-            say(rt, "refused 22")?;
-            number(rt, place.0 as u64)?;
-            say(rt, "\n")?;
-            Ok(0)
-        }
+        Record::Commit(Stamp(258)),
+        Record::Abort { stamp, cause: 1 },
+        Record::Abort { stamp, cause: 2 },
+    ];
+    let mut at = used;
+    for record in records {
+        at = add(rt, log, at, record)?;
     }
+    Ok(at)
 }
 
 // The form of a log, and its records with their places.
 fn show(rt: &impl Print, log: &[u8]) -> io::Result<()> {
-    let f = log_reader::read_log(log);
-    let n = say_form(rt, f)?;
-    let mut at = Place(4);
-    let mut i: usize = 0;
-    while i < n {
-        let d = log_reader::decode_at(log, at);
-        let Decoded::Field(r, next) = d else {
+    let count = match log_reader::read_log(log) {
+        Ok(count) => count,
+        Err(FormError::NoLog) => return println!(rt; "refused 21 0"),
+        Err(FormError::BadField(place)) => return println!(rt; "refused 22 {}", place.0),
+    };
+    println!(rt; "records {count}")?;
+    let mut at = Place(Place::FIRST);
+    for _ in 0..count {
+        let Ok(Some((record, next))) = log_reader::decode_at(log, at) else {
             return Ok(());
         };
-        print!(rt; "{}", at.0)?;
-        say_record(rt, r)?;
+        print_record(rt, at, record)?;
         at = next;
-        i += 1;
-    }
-    Ok(())
-}
-
-fn show_first(rt: &impl Print, log: &[u8], n: usize) -> io::Result<()> {
-    if n <= log.len() {
-        show(rt, &log[..n])?;
     }
     Ok(())
 }
 
 fn main(rt: HostRuntime) -> io::Result<()> {
     let mut log = [170u8; 64];
-    let a = log_writer::write_header(&mut log);
-    let first = used_after(&rt, Place(0), a)?;
+    let begun = log_writer::write_header(&mut log);
+    let first = used_after(&rt, Place(0), begun)?;
     let used = fill(&rt, &mut log, first)?;
-    let end = used.0;
-    show_first(&rt, &log, end)?;
-    show_first(&rt, &log, 22)?;
-    show_first(&rt, &log, 3)?;
-    show_first(&rt, &log, 64)?;
+    for len in [used.0, 22, 3, 64] {
+        show(&rt, log.get(..len).unwrap_or(&[]))?;
+    }
     log[3] = 2;
-    show_first(&rt, &log, end)?;
+    show(&rt, log.get(..used.0).unwrap_or(&[]))?;
     let mut short = [0u8; 10];
-    let b = log_writer::write_header(&mut short);
-    let next = used_after(&rt, Place(0), b)?;
+    let begun = log_writer::write_header(&mut short);
+    let next = used_after(&rt, Place(0), begun)?;
     let last = add(&rt, &mut short, next, Record::Begin(Stamp(1)))?;
-    show_first(&rt, &short, last.0)?;
+    show(&rt, short.get(..last.0).unwrap_or(&[]))?;
     let mut none = [0u8; 3];
-    let c = log_writer::write_header(&mut none);
-    used_after(&rt, Place(0), c)?;
+    let begun = log_writer::write_header(&mut none);
+    used_after(&rt, Place(0), begun)?;
     Ok(())
 }

@@ -2,7 +2,7 @@
 // transactions, dense graphs of 256. The expected output is written by hand from document 01.
 #![tactic(auto)]
 
-use log_format::{Added, Place, Record, Stamp};
+use log_format::{Place, Record, Stamp};
 use std::io;
 
 // The first n bytes, or all where there are fewer.
@@ -25,12 +25,7 @@ fn judged(rt: &impl Print, name: &str, log: &[u8], used: usize, order: &[u8]) ->
 
 // The bytes used with one record more.
 fn add(log: &mut [u8], used: usize, r: Record) -> usize {
-    let a = log_writer::append(log, Place(used), r);
-    match a {
-        Added::Done(p) => p.0,
-        Added::BadCause => used,
-        Added::NoRoom => used,
-    }
+    log_writer::append(log, Place(used), r).map_or(used, |next| next.0)
 }
 
 fn read(log: &mut [u8], used: usize, k: u32, item: u8, j: u32) -> usize {
@@ -113,8 +108,8 @@ fn each(log: &mut [u8], from: usize, what: Turn, n: u32) -> usize {
 
 // The header, and begins of the stamps from 1 to n.
 fn begun(log: &mut [u8], n: u32) -> usize {
-    log_writer::write_header(log);
-    each(log, 4, Turn::Begins, n)
+    let used = log_writer::write_header(log).map_or(0, |next| next.0);
+    each(log, used, Turn::Begins, n)
 }
 
 // ---- version orders
@@ -163,7 +158,7 @@ fn falling(order: &mut [u8], from: usize, first: u32, step: u32, n: usize) {
 // A header and then zeros: a byte over the limit is seen first, then the unknown tag 0.
 fn long_logs(rt: &impl Print) -> io::Result<()> {
     let mut log = [0u8; 65537];
-    log_writer::write_header(&mut log);
+    log_writer::write_header(&mut log).unwrap();
     judged(rt, "65537 bytes: ", &log, 65537, b"")?;
     judged(rt, "65536 bytes: ", &log, 65536, b"")
 }

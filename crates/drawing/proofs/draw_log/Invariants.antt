@@ -5,8 +5,8 @@ use Prim.Native.Nat.{◌-◌}
 use Rattle.drawing.proofs.WalkLaws.{Drawing}
 use Rattle.drawing.proofs.draw_log.Given as goal
 
-abbrev pub invariant-loop-r : goal.invariant-loop-r
-invariant-loop-r l = Drawing l.log l.nodes l.rank l.count l.mat l.at
+abbrev pub invariant-loop-record : goal.invariant-loop-record
+invariant-loop-record l = Drawing l.log l.nodes l.rank l.count l.mat l.at.0
 
-abbrev pub decreases-loop-r : goal.decreases-loop-r
-decreases-loop-r l = length l.log - l.at
+abbrev pub decreases-loop-record : goal.decreases-loop-record
+decreases-loop-record l = length l.log - l.at.0
