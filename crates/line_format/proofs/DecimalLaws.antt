@@ -9,6 +9,8 @@ use mathlib.Core.List.{List, [], ◌∷◌, ◌++◌}
 use lib.ListN.{length, length-append}
 use lib.Dec.{ltb}
 use borrow.Author.Tests.{ltb-true, ltb-false, lt-ltb, le-ltb}
+use Rattle.std.specs.Fmt.{decimal}
+use Rattle.std.proofs.lemmas.Fmt.{decimal_digit, decimal_step}
 use Rattle.line_format.specs.Decimals.{most, glyph, digits_in, digits, Decimal, one, more}
 
 -- ---- how a number is written
@@ -92,3 +94,12 @@ ten_digits n h = digits-length 9 n (omega arith)
 -- a number in 64 bits has at most twenty
 pub twenty_digits : (n : ℕ) → n < 2 ^ 64 → length (digits n) ≤ 20
 twenty_digits n h = digits-length 19 n (omega arith)
+
+-- the library prints a number in 64 bits as its digits
+pub decimal_is : (n : ℕ) → n < 2 ^ 64 → decimal n ≡ digits n
+decimal_is = by_tens (λ n. n < 2 ^ 64 → decimal n ≡ digits n)
+    (λ d h _. decimal_digit d h ∙ sym (digits_one d h))
+    (λ n d p h r l.
+    let q : (n * 10 + d) / 10 ≡ n = omega arith in
+    let m : (n * 10 + d) % 10 ≡ d = omega arith in
+    decimal_step (n * 10 + d) (omega arith) l ∙ rw (q, m, r (omega arith)) (sym (digits_snoc n d p h)))

@@ -7,14 +7,13 @@ use mathlib.Core.List.{List, [], ◌∷◌, ◌++◌, append_assoc, append-nil}
 use lib.ListN.{length, drop, get_or, length-append}
 use lib.Seq.{drop-drop, drop-append_seam, get_or-drop}
 use borrow.Author.Tests.{le-leb, eq-eqb}
+use Rattle.std.specs.Prelude.{Some}
 use Rattle.scheduler_rules.specs.Run.{begin, read, write, commit, abort}
 use Rattle.scheduler_rules.specs.declared.Op.{Op}
 use Rattle.line_format.specs.Decimals.{most, digits, decimal_at}
 use Rattle.line_format.specs.Lines.{longest}
 use Rattle.line_format.specs.Lines.{Says, says_begin, says_read, says_write, says_commit, says_abort}
 use Rattle.line_format.specs.Lines.{starts, spaced_at, ended, one_number, two_numbers, three_numbers, by_keyword, parse_line}
-use Rattle.line_format.specs.declared.Number.TheVariants.{Is}
-use Rattle.line_format.specs.declared.Parsed.TheVariants.{Line}
 use Rattle.line_format.proofs.DecimalLaws.{ten_digits}
 use Rattle.line_format.proofs.ReadingLaws.{Stops, read_back}
 
@@ -31,7 +30,7 @@ module _ {s : List ℕ} {at : ℕ} where
     size = omega (arith, length-append d u, f.size);
   }
 
-  number_there : (n : ℕ) (u : List ℕ) → From s at (digits n ++ u) → n ≤ most → Stops u → decimal_at s at ≡ Is n (at + length (digits n))
+  number_there : (n : ℕ) (u : List ℕ) → From s at (digits n ++ u) → n ≤ most → Stops u → decimal_at s at ≡ Some (n, at + length (digits n))
   number_there n u f l h = rw f.rest (read_back n at u l h)
 
   space_there : (u : List ℕ) → From s at (32 ∷ u) → spaced_at s at ≡ decimal_at s (at + 1)
@@ -39,17 +38,17 @@ module _ {s : List ℕ} {at : ℕ} where
       let e : get_or s at 0 ≡ 32 = ap (λ (i : ℕ). get_or s i 0) (omega arith) ∙ sym (get_or-drop at s 0 0) ∙ ap (λ (l : List ℕ). get_or l 0 0) f.rest in
       rw e
 
-  end_there : (op : Op) → From s at [] → ended s at op ≡ Line op
+  end_there : (op : Op) → From s at [] → ended s at op ≡ Some op
   end_there op f = simp (eq-eqb at (length s) (omega (arith, f.size)))
 
 module _ {s : List ℕ} {at : ℕ} where
-  one_there : (f : ℕ → Op) (k : ℕ) → k ≤ most → From s at (digits k) → one_number f s at ≡ Line (f k)
+  one_there : (f : ℕ → Op) (k : ℕ) → k ≤ most → From s at (digits k) → one_number f s at ≡ Some (f k)
   unfolding one_number
   one_there f k h g =
       let g₁ : From s at (digits k ++ []) = rw append-nil g in
       rw (number_there k [] g₁ h tt) (end_there (f k) (past (digits k) [] g₁))
 
-  two_there : (f : ℕ → ℕ → Op) (k x : ℕ) → k ≤ most → x ≤ most → From s at (digits k ++ (32 ∷ digits x)) → two_numbers f s at ≡ Line (f k x)
+  two_there : (f : ℕ → ℕ → Op) (k x : ℕ) → k ≤ most → x ≤ most → From s at (digits k ++ (32 ∷ digits x)) → two_numbers f s at ≡ Some (f k x)
   unfolding two_numbers
   two_there f k x h i g =
       let g₁ : From s (at + length (digits k)) (32 ∷ digits x) = past (digits k) (32 ∷ digits x) g in
@@ -58,7 +57,7 @@ module _ {s : List ℕ} {at : ℕ} where
       (end_there (f k x) (past (digits x) [] g₂))
 
   three_there : (f : ℕ → ℕ → ℕ → Op) (k x v : ℕ) → k ≤ most → x ≤ most → v ≤ most
-      → From s at (digits k ++ (32 ∷ digits x ++ (32 ∷ digits v))) → three_numbers f s at ≡ Line (f k x v)
+      → From s at (digits k ++ (32 ∷ digits x ++ (32 ∷ digits v))) → three_numbers f s at ≡ Some (f k x v)
   unfolding three_numbers
   three_there f k x v h i j g =
       let g₁ : From s (at + length (digits k)) (32 ∷ digits x ++ (32 ∷ digits v)) = past (digits k) (32 ∷ digits x ++ (32 ∷ digits v)) g in
@@ -77,7 +76,7 @@ says_short (says_commit k h) = omega (arith, ten_digits k h)
 says_short (says_abort k h) = omega (arith, ten_digits k h)
 
 -- the keyword of a line of each kind is found
-keyword : {s : List ℕ} {op : Op} → Says s op → by_keyword s ≡ Line op
+keyword : {s : List ℕ} {op : Op} → Says s op → by_keyword s ≡ Some op
 unfolding starts
 keyword (says_begin k h) = one_there begin k h (record { rest = refl; size = omega arith })
 keyword (says_read k x h i) = two_there read k x h i (record { rest = append_assoc (digits k) (32 ∷ []) (digits x); size = simp length-append (omega arith) })
@@ -86,6 +85,6 @@ keyword (says_commit k h) = one_there commit k h (record { rest = refl; size = o
 keyword (says_abort k h) = one_there abort k h (record { rest = refl; size = omega arith })
 
 -- a line that says an operation is read as that operation
-pub says_parse : {s : List ℕ} {op : Op} → Says s op → parse_line s ≡ Line op
+pub says_parse : {s : List ℕ} {op : Op} → Says s op → parse_line s ≡ Some op
 unfolding parse_line
 says_parse {s} r = simp (le-leb (length s) longest (says_short r)) (keyword r)

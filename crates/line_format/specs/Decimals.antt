@@ -1,10 +1,8 @@
 -- Texts and decimal numbers as bytes: how a number is written, and what reading one at a place of a line answers.
 -- Assumes nothing.
-use Rattle.std.specs.Prelude.{ℕ, zero, suc, ◌+◌, ◌-◌, ◌*◌, ◌/◌, ◌%◌, ◌<◌, Bool, false, cond, List, [], ◌∷◌, ◌++◌, drop, ltb, leb, eqb}
+use Rattle.std.specs.Prelude.{ℕ, zero, suc, ◌+◌, ◌-◌, ◌*◌, ◌/◌, ◌%◌, ◌<◌, Bool, false, cond, List, [], ◌∷◌, ◌++◌, drop, ltb, leb, eqb, Option, Some, None}
 use Prim.Native.Char.{code}
 use Prim.Native.String.{String, [] as no_text, ◌∷◌ as ◌before◌}
-use Rattle.line_format.specs.declared.Number.{Number}
-use Rattle.line_format.specs.declared.Number.TheVariants.{Is, Missing}
 
 -- a text's bytes
 abbrev pub bytes : String → List ℕ
@@ -44,17 +42,17 @@ abbrev pub is_digit : ℕ → Bool
 is_digit b = cond (leb 48 b) (leb b 57) false
 
 -- v is the number so far, s the line from a place on: the number with the digits that follow, and the place after them; none over 4294967295
-unfoldable pub more_digits : ℕ → ℕ → List ℕ → Number
-more_digits v at [] = Is v at
+unfoldable pub more_digits : ℕ → ℕ → List ℕ → Option (ℕ × ℕ)
+more_digits v at [] = Some (v, at)
 more_digits v at (b ∷ s) =
-    let next : Number = more_digits (v * 10 + (b - 48)) (suc at) s in
-    cond (is_digit b) (cond (leb (v * 10 + (b - 48)) most) next Missing) (Is v at)
+    let next : Option (ℕ × ℕ) = more_digits (v * 10 + (b - 48)) (suc at) s in
+    cond (is_digit b) (cond (leb (v * 10 + (b - 48)) most) next None) (Some (v, at))
 
 -- the decimal at the front of what stands from a place on; no digit goes on after a first 0
-unfoldable pub first_digit : ℕ → List ℕ → Number
-first_digit at [] = Missing
-first_digit at (b ∷ s) = cond (is_digit b) (cond (eqb b 48) (Is 0 (suc at)) (more_digits (b - 48) (suc at) s)) Missing
+unfoldable pub first_digit : ℕ → List ℕ → Option (ℕ × ℕ)
+first_digit at [] = None
+first_digit at (b ∷ s) = cond (is_digit b) (cond (eqb b 48) (Some (0, suc at)) (more_digits (b - 48) (suc at) s)) None
 
 -- the decimal at a place of a line
-abbrev pub decimal_at : List ℕ → ℕ → Number
+abbrev pub decimal_at : List ℕ → ℕ → Option (ℕ × ℕ)
 decimal_at s at = first_digit at (drop at s)

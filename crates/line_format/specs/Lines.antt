@@ -1,13 +1,9 @@
 -- Operation lines: the line that says an operation, and what a line of bytes asks.
 -- Assumes nothing.
-use Rattle.std.specs.Prelude.{ℕ, ◌+◌, ◌≤◌, ◌≡◌, Bool, true, false, cond, List, [], ◌∷◌, ◌++◌, length, get_or, leb, eqb}
+use Rattle.std.specs.Prelude.{ℕ, ◌+◌, ◌≤◌, ◌≡◌, Bool, true, false, cond, List, [], ◌∷◌, ◌++◌, length, get_or, leb, eqb, Option, Some, None}
 use Rattle.scheduler_rules.specs.Run.{begin, read, write, commit, abort}
 use Rattle.scheduler_rules.specs.declared.Op.{Op}
 use Rattle.line_format.specs.Decimals.{bytes, most, digits, decimal_at}
-use Rattle.line_format.specs.declared.Number.{Number}
-use Rattle.line_format.specs.declared.Number.TheVariants.{Is, Missing}
-use Rattle.line_format.specs.declared.Parsed.{Parsed}
-use Rattle.line_format.specs.declared.Parsed.TheVariants.{Line, Bad}
 
 -- the longest line, in bytes
 abbrev pub longest : ℕ
@@ -67,44 +63,44 @@ starts (w ∷ ws) [] = false
 starts (w ∷ ws) (b ∷ s) = cond (eqb b w) (starts ws s) false
 
 -- one space at a place, and a decimal after it
-abbrev pub spaced_at : List ℕ → ℕ → Number
-spaced_at s at = cond (eqb (get_or s at 0) 32) (decimal_at s (at + 1)) Missing
+abbrev pub spaced_at : List ℕ → ℕ → Option (ℕ × ℕ)
+spaced_at s at = cond (eqb (get_or s at 0) 32) (decimal_at s (at + 1)) None
 
 -- what is made of a number and the place after it; where there is none, the line is bad
-abbrev pub with_number : Number → (ℕ → ℕ → Parsed) → Parsed
-with_number (Is n at) f = f n at
-with_number Missing f = Bad
+abbrev pub with_number : Option (ℕ × ℕ) → (ℕ → ℕ → Option Op) → Option Op
+with_number (Some (n, at)) f = f n at
+with_number None f = None
 
 -- an operation, where the line ends at the place
-abbrev pub ended : List ℕ → ℕ → Op → Parsed
-ended s at op = cond (eqb at (length s)) (Line op) Bad
+abbrev pub ended : List ℕ → ℕ → Op → Option Op
+ended s at op = cond (eqb at (length s)) (Some op) None
 
 -- an operation of a stamp alone: begin, commit or abort
 abbrev pub stamp_op : ℕ → ℕ → Op
 stamp_op kind k = record { kind = kind; stamp = record { 0 = k }; item = 0; value = 0 }
 
 -- one number after the keyword
-unfoldable pub one_number : (ℕ → Op) → List ℕ → ℕ → Parsed
+unfoldable pub one_number : (ℕ → Op) → List ℕ → ℕ → Option Op
 one_number f s at = with_number (decimal_at s at) (λ k a. ended s a (f k))
 
 -- two numbers
-unfoldable pub two_numbers : (ℕ → ℕ → Op) → List ℕ → ℕ → Parsed
+unfoldable pub two_numbers : (ℕ → ℕ → Op) → List ℕ → ℕ → Option Op
 two_numbers f s at = with_number (decimal_at s at) (λ k a. with_number (spaced_at s a) (λ x b. ended s b (f k x)))
 
 -- three numbers
-unfoldable pub three_numbers : (ℕ → ℕ → ℕ → Op) → List ℕ → ℕ → Parsed
+unfoldable pub three_numbers : (ℕ → ℕ → ℕ → Op) → List ℕ → ℕ → Option Op
 three_numbers f s at = with_number (decimal_at s at) (λ k a. with_number (spaced_at s a) (λ x b. with_number (spaced_at s b) (λ v c. ended s c (f k x v))))
 
 -- the keyword decides
-abbrev pub by_keyword : List ℕ → Parsed
+abbrev pub by_keyword : List ℕ → Option Op
 by_keyword s =
     cond (starts (bytes "begin ") s) (one_number begin s 6)
     (cond (starts (bytes "read ") s) (two_numbers read s 5)
     (cond (starts (bytes "write ") s) (three_numbers write s 6)
     (cond (starts (bytes "commit ") s) (one_number commit s 7)
     (cond (starts (bytes "abort ") s) (one_number abort s 6)
-    Bad))))
+    None))))
 
 -- what a line asks: an operation, or a bad line, answered by `no 2`
-unfoldable pub parse_line : List ℕ → Parsed
-parse_line s = cond (leb (length s) longest) (by_keyword s) Bad
+unfoldable pub parse_line : List ℕ → Option Op
+parse_line s = cond (leb (length s) longest) (by_keyword s) None

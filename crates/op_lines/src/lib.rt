@@ -3,187 +3,127 @@
 
 ghost use Rattle.std.specs.Prelude.{◌≡◌, ◌≤◌, length, drop};
 ghost use Rattle.scheduler_rules.specs.Run.{read, write};
-ghost use Rattle.line_format.specs.Decimals.{is_digit, more_digits, decimal_at};
-ghost use Rattle.line_format.specs.Lines.{starts as Lines·starts, spaced_at, stamp_op, one_number, two_numbers, three_numbers, parse_line};
+ghost use Rattle.line_format.specs.Decimals.{more_digits, decimal_at};
+ghost use Rattle.line_format.specs.Lines.{spaced_at, ended, stamp_op, one_number, two_numbers, three_numbers, parse_line};
 
-use line_format::{Number, Parsed};
+use line_format::LONGEST;
 use log_format::Stamp;
 use scheduler_rules::Op;
 
-// Whether a line begins with the bytes of a word.
-fn starts(line: &[u8], word: &[u8]) -> bool
-    ensures { result ≡ Lines·starts word.now line.now }
-{
-    if line.len() < word.len() {
-        return false;
-    }
-    let mut i: usize = 0;
-    while i < word.len() {
-        if line[i] != word[i] {
-            return false;
-        }
-        i += 1;
-    }
-    true
-}
-
 // ---- decimals
 
-// Whether a byte is a digit.
-fn is_digit(b: u8) -> bool
-    ensures { result ≡ is_digit b }
-{
-    if b < b'0' {
-        return false;
-    }
-    b <= b'9'
-}
-
 // The number that a first digit and the digits from a place on make, and the place after them; none over 4294967295.
-fn more_digits(line: &[u8], from: usize, first: u32) -> Number
-    requires { (from ≤ length line.now) × (first ≤ 9) }
+fn more_digits(line: &[u8], from: usize, first: u32) -> Option<(u32, usize)>
+    requires { from ≤ length line.now }
     ensures { result ≡ more_digits first from (drop from line.now) }
 {
-    let mut n: u64 = first as u64;
-    let mut at: usize = from;
-    while at < line.len() {
+    let mut n = first;
+    for at in from..line.len() {
         let b = line[at];
-        if is_digit(b) {
-            let next = n * 10 + (b - b'0') as u64;
-            if Number::MOST < next {
-                return Number::Missing;
-            }
-            n = next;
-            at += 1;
-        } else {
-            return Number::Is(n as u32, at);
+        if !b.is_ascii_digit() {
+            return Some((n, at));
         }
+        n = n.checked_mul(10)?.checked_add(u32::from(b - b'0'))?;
     }
-    Number::Is(n as u32, at)
+    Some((n, line.len()))
 }
 
 // The decimal at a place of a line, with the place after it, or none. No digit goes on after a first 0.
-fn decimal_at(line: &[u8], at: usize) -> Number
+fn decimal_at(line: &[u8], at: usize) -> Option<(u32, usize)>
     ensures { result ≡ decimal_at line.now at }
 {
-    if line.len() <= at {
-        return Number::Missing;
+    match *line.get(at)? {
+        b'0' => Some((0, at + 1)),
+        b @ b'1'..=b'9' => more_digits(line, at + 1, u32::from(b - b'0')),
+        _ => None,
     }
-    let b = line[at];
-    if b == b'0' {
-        return Number::Is(0, at + 1);
-    }
-    if is_digit(b) {
-        return more_digits(line, at + 1, (b - b'0') as u32);
-    }
-    Number::Missing
 }
 
 // The decimal after one space at a place of a line, with the place after it, or none.
-fn spaced_at(line: &[u8], at: usize) -> Number
+fn spaced_at(line: &[u8], at: usize) -> Option<(u32, usize)>
     ensures { result ≡ spaced_at line.now at }
 {
-    if line.len() <= at {
-        return Number::Missing;
+    match *line.get(at)? {
+        b' ' => decimal_at(line, at + 1),
+        _ => None,
     }
-    if line[at] == b' ' {
-        return decimal_at(line, at + 1);
-    }
-    Number::Missing
 }
 
 // ---- lines
 
+// An operation, where the line ends at the place.
+fn ended(line: &[u8], at: usize, op: Op) -> Option<Op>
+    ensures { result ≡ ended line.now at op }
+{
+    (at == line.len()).then_some(op)
+}
+
 // A line whose one number, a stamp, begins at a place and ends it.
-fn stamp_line(line: &[u8], at: usize, kind: u32) -> Parsed
+#[tactic(auto, unfolding(line_format::specs::Lines::one_number))]
+fn stamp_line(line: &[u8], at: usize, kind: u32) -> Option<Op>
     ensures { result ≡ one_number (stamp_op kind) line.now at }
 {
-    let first = decimal_at(line, at);
-    let Number::Is(stamp, end) = first else {
-        return Parsed::Bad;
+    let (stamp, end) = decimal_at(line, at)?;
+    let op = Op {
+        kind,
+        stamp: Stamp(stamp),
+        item: 0,
+        value: 0,
     };
-    if end == line.len() {
-        return Parsed::Line(Op {
-            kind,
-            stamp: Stamp(stamp),
-            item: 0,
-            value: 0,
-        });
-    }
-    Parsed::Bad
+    ended(line, end, op)
 }
 
 // A read's line: its stamp begins at a place, its item ends it.
-fn read_line(line: &[u8], at: usize) -> Parsed
+#[tactic(auto, unfolding(line_format::specs::Lines::two_numbers))]
+fn read_line(line: &[u8], at: usize) -> Option<Op>
     ensures { result ≡ two_numbers read line.now at }
 {
-    let first = decimal_at(line, at);
-    let Number::Is(stamp, after) = first else {
-        return Parsed::Bad;
+    let (stamp, after) = decimal_at(line, at)?;
+    let (item, end) = spaced_at(line, after)?;
+    let op = Op {
+        kind: 2,
+        stamp: Stamp(stamp),
+        item,
+        value: 0,
     };
-    let second = spaced_at(line, after);
-    let Number::Is(item, end) = second else {
-        return Parsed::Bad;
-    };
-    if end == line.len() {
-        return Parsed::Line(Op {
-            kind: 2,
-            stamp: Stamp(stamp),
-            item,
-            value: 0,
-        });
-    }
-    Parsed::Bad
+    ended(line, end, op)
 }
 
 // A write's line: its stamp begins at a place, then its item, and its value ends it.
-fn write_line(line: &[u8], at: usize) -> Parsed
+#[tactic(auto, unfolding(line_format::specs::Lines::three_numbers))]
+fn write_line(line: &[u8], at: usize) -> Option<Op>
     ensures { result ≡ three_numbers write line.now at }
 {
-    let first = decimal_at(line, at);
-    let Number::Is(stamp, after) = first else {
-        return Parsed::Bad;
+    let (stamp, after) = decimal_at(line, at)?;
+    let (item, behind) = spaced_at(line, after)?;
+    let (value, end) = spaced_at(line, behind)?;
+    let op = Op {
+        kind: 3,
+        stamp: Stamp(stamp),
+        item,
+        value,
     };
-    let second = spaced_at(line, after);
-    let Number::Is(item, behind) = second else {
-        return Parsed::Bad;
-    };
-    let third = spaced_at(line, behind);
-    let Number::Is(value, end) = third else {
-        return Parsed::Bad;
-    };
-    if end == line.len() {
-        return Parsed::Line(Op {
-            kind: 3,
-            stamp: Stamp(stamp),
-            item,
-            value,
-        });
-    }
-    Parsed::Bad
+    ended(line, end, op)
 }
 
-// What a line asks: an operation, or a bad line, for which the reply is `no 2`. The line has no newline.
-pub fn parse(line: &[u8]) -> Parsed
+// What a line asks: an operation, or none for a bad line, to which the reply is `no 2`. The line has no newline.
+#[tactic(auto, unfolding(line_format::specs::Lines::parse_line))]
+pub fn parse(line: &[u8]) -> Option<Op>
     ensures { result ≡ parse_line line.now }
 {
-    if Parsed::LONGEST < line.len() {
-        return Parsed::Bad;
+    if line.len() > LONGEST {
+        None
+    } else if line.starts_with(b"begin ") {
+        stamp_line(line, 6, 1)
+    } else if line.starts_with(b"read ") {
+        read_line(line, 5)
+    } else if line.starts_with(b"write ") {
+        write_line(line, 6)
+    } else if line.starts_with(b"commit ") {
+        stamp_line(line, 7, 4)
+    } else if line.starts_with(b"abort ") {
+        stamp_line(line, 6, 5)
+    } else {
+        None
     }
-    if starts(line, b"begin ") {
-        return stamp_line(line, 6, 1);
-    }
-    if starts(line, b"read ") {
-        return read_line(line, 5);
-    }
-    if starts(line, b"write ") {
-        return write_line(line, 6);
-    }
-    if starts(line, b"commit ") {
-        return stamp_line(line, 7, 4);
-    }
-    if starts(line, b"abort ") {
-        return stamp_line(line, 6, 5);
-    }
-    Parsed::Bad
 }

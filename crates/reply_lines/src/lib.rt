@@ -13,26 +13,18 @@ pub fn put_word(out: &mut [u8], at: usize, word: &[u8]) -> usize
     requires { at + length word.now ≤ length out.old }
     ensures { Put out.old at word.now result out.new }
 {
-    let mut i: usize = 0;
-    while i < word.len() {
-        out[at + i] = word[i];
-        i += 1;
-    }
-    at + i
+    let end = at + word.len();
+    out[at..end].copy_from_slice(word);
+    end
 }
 
-// Writes a number in decimal at a place where it fits, and answers the place after it: the tenth of it, then its last digit.
+// Writes a number in decimal at a place where it fits, and answers the place after it.
 pub fn put_number(out: &mut [u8], at: usize, n: u64) -> usize
     requires { at + length (digits n) ≤ length out.old }
     ensures { Put out.old at (digits n) result out.new }
 {
-    if n < 10 {
-        out[at] = b'0' + n as u8;
-        return at + 1;
-    }
-    let last = put_number(out, at, n / 10);
-    out[last] = b'0' + (n % 10) as u8;
-    last + 1
+    let mut printed = itoa::Buffer::new();
+    put_word(out, at, printed.format(n).as_bytes())
 }
 
 // Writes a word, a number and the newline from the front on, where they fit.
@@ -51,9 +43,9 @@ fn put_value(out: &mut [u8], value: u32, stamp: u32) -> usize
     ensures { Put out.old 0 (value_line value stamp) result out.new }
 {
     let a = put_word(out, 0, b"value ");
-    let b = put_number(out, a, value as u64);
+    let b = put_number(out, a, u64::from(value));
     let c = put_word(out, b, b" from ");
-    let d = put_number(out, c, stamp as u64);
+    let d = put_number(out, c, u64::from(stamp));
     put_word(out, d, b"\n")
 }
 
@@ -62,20 +54,13 @@ fn put_reply(out: &mut [u8], op: Op, r: Reply) -> usize
     requires { 33 ≤ length out.old }
     ensures { Put out.old 0 (reply_line op r) result out.new }
 {
-    let code = r.code;
-    if code == 0 {
-        if op.kind == 2 {
-            return put_value(out, r.value, r.stamp.0);
-        }
-        return put_word(out, 0, b"ok\n");
+    match r.code {
+        0 if op.kind == 2 => put_value(out, r.value, r.stamp.0),
+        0 => put_word(out, 0, b"ok\n"),
+        6 => put_said(out, b"wait ", u64::from(r.stamp.0)),
+        8 => put_said(out, b"late ", u64::from(r.stamp.0)),
+        code => put_said(out, b"no ", u64::from(code)),
     }
-    if code == 6 {
-        return put_said(out, b"wait ", r.stamp.0 as u64);
-    }
-    if code == 8 {
-        return put_said(out, b"late ", r.stamp.0 as u64);
-    }
-    put_said(out, b"no ", code as u64)
 }
 
 // Writes the line of an operation's reply, with its newline, at the buffer's front. Answers its length; no later byte changes.

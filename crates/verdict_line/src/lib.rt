@@ -26,10 +26,8 @@ fn put_stamps(out: &mut [u8], at: usize, answer: &[u8], n: usize) -> usize
     ensures { Put out.old at (each_spaced (stamps_at answer.now 0 n)) result out.new }
 {
     let mut next = at;
-    let mut i: usize = 0;
-    while i < n {
-        next = put_spaced(out, next, log_reader::be32(answer, 4 * i) as u64);
-        i += 1;
+    for i in 0..n {
+        next = put_spaced(out, next, u64::from(log_reader::be32(answer, 4 * i)));
     }
     next
 }
@@ -50,7 +48,7 @@ fn put_refusal(out: &mut [u8], code: u32, number: usize) -> usize
     ensures { Put out.old 0 (refusal code number) result out.new }
 {
     let a = reply_lines::put_word(out, 0, b"refused");
-    let b = put_spaced(out, a, code as u64);
+    let b = put_spaced(out, a, u64::from(code));
     let c = put_spaced(out, b, number as u64);
     reply_lines::put_word(out, c, b"\n")
 }

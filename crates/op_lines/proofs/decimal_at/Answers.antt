@@ -1,17 +1,19 @@
 -- `op_lines::decimal_at` meets its contract: the end, a 0, another digit and any other byte each have a law.
-use Rattle.std.proofs.Common.{sym, ◌∙◌}
+use Rattle.std.proofs.Common.{rules}
 use Rattle.line_format.proofs.PlaceLaws.{decimal_zero, decimal_more, decimal_none, decimal_end}
 use Rattle.op_lines.proofs.decimal_at.Goals as goal
 
-pub returns-then-line-at : goal.returns-then-line-at
-returns-then-line-at c = sym (decimal_end _ _ c.if-line-at.true)
+pub returns-in_err-b : goal.returns-in_err-b
+returns-in_err-b c = search (rules, decimal_end)
 
-pub returns-then-b-eq48 : goal.returns-then-b-eq48
-returns-then-b-eq48 c = sym (decimal_zero _ _ c.if-line-at.false c.if-b-eq48.true)
+pub returns-in-48 : goal.returns-in-48
+returns-in-48 c = search (rules, decimal_zero)
 
-pub returns-then-is_digit : goal.returns-then-is_digit
-returns-then-is_digit c =
-    c.more_digits.ensures ∙ sym (decimal_more _ _ c.if-line-at.false (sym c.is_digit.ensures ∙ c.if-is_digit.true) c.if-b-eq48.false)
+pub returns-in-49-to-57 : goal.returns-in-49-to-57
+returns-in-49-to-57 c = search (rules, decimal_more)
 
-pub returns : goal.returns
-returns c = sym (decimal_none _ _ c.if-line-at.false (sym c.is_digit.ensures ∙ c.if-is_digit.false))
+pub returns-in_default : goal.returns-in_default
+returns-in_default c = search (rules, decimal_none)
+
+pub returns-in_default-2 : goal.returns-in_default-2
+returns-in_default-2 c = search (rules, decimal_none)

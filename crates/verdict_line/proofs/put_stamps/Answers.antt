@@ -1,4 +1,4 @@
-use Rattle.std.proofs.Common.{arith}
+use Rattle.std.proofs.Common.{◌∙◌, arith}
 use Rattle.line_format.proofs.DecimalLaws.{ten_digits}
 use Rattle.verdict_line.proofs.SpacedLaws.{listing_none, listing_next}
 use Rattle.verdict_line.proofs.put_stamps.Goals as goal
@@ -7,9 +7,9 @@ pub loop-i-init : goal.loop-i-init
 loop-i-init c = listing_none _ _ _ _ (omega arith)
 
 pub put_spaced-next-requires : goal.put_spaced-next-requires
-put_spaced-next-requires c = omega (arith, ten_digits c.be32.result (omega arith))
+put_spaced-next-requires c = omega (arith, ten_digits c.from.result (omega (arith, c.from.ensures)))
 
 pub loop-i-preserved : goal.loop-i-preserved
 loop-i-preserved c =
     let p = c.put_spaced-next in
-    listing_next _ _ _ _ _ _ _ _ _ _ c.loop-i.invariant c.loop-i-test.true (omega arith) c.be32.ensures (omega arith) p.ensures p.auto.out
+    listing_next _ _ _ _ _ _ _ _ _ _ c.loop-i.invariant c.loop-i-test.true (omega arith) (c.from.ensures ∙ c.be32.ensures) (omega (arith, c.from.ensures)) p.ensures p.auto.out
