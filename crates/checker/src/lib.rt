@@ -10,6 +10,7 @@ ghost use Rattle.history.specs.Reads.{ReadLog};
 ghost use Rattle.checker.specs.Reads.{GraphIs};
 
 use checker_rules::{Checked, Ordered};
+use edges::Graph;
 use graph::Verdict;
 use history::Judged;
 use log_format::Place;
@@ -59,7 +60,11 @@ fn check_graph(log: &[u8], nodes: &[u32], count: usize, rank: &[u16], answer: &m
     drawing::draw_log(log, nodes, count, rank, &mut mat);
     let mut deg = [0u16; numbers::MAX_COMMITTED];
     let mut path = [0u16; numbers::MAX_COMMITTED];
-    graph::judge_graph(&mat, count, nodes, &mut deg, &mut path, answer)
+    let graph = Graph {
+        matrix: &mat,
+        count,
+    };
+    graph::judge_graph(graph, nodes, &mut deg, &mut path, answer)
 }
 
 // The answer for a log that was read: 28, then 29, then the verdict.

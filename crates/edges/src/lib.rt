@@ -4,69 +4,100 @@
 #![tactic(auto)]
 
 ghost use Rattle.std.specs.Prelude.{◌≡◌, ◌≤◌, ◌<◌, length};
-ghost use Rattle.edges.specs.Matrix.{most_nodes, matrix_size, with_edge};
+ghost use Rattle.edges.specs.Matrix.{most_nodes, matrix_size, edge_at, with_edge};
 ghost use Rattle.edges.specs.Drawn.{Room, Drew};
 ghost use Rattle.edges.specs.Adding.{Adds, One, Others};
 
+use numbers::{ITEMS, MAX_COMMITTED};
+
+// ---- reading
+
+// A graph whose edges are drawn: its matrix, and how many nodes it has.
+#[derive(Clone, Copy)]
+pub struct Graph<'a> {
+    pub matrix: &'a [u8],
+    pub count: usize,
+    pub ghost matrix_fits: { matrix_size ≤ length matrix.now },
+    pub ghost few_nodes: { count ≤ most_nodes },
+}
+
+impl Graph<'_> {
+    // Whether there is an edge from one node to the other.
+    pub fn edge(&self, from: usize, to: usize) -> bool
+        requires from_node { from < self.now.count }
+        requires to_node { to < self.now.count }
+        ensures { result ≡ edge_at self.now.matrix.now from to }
+    {
+        self.matrix[from * MAX_COMMITTED + to] == 1
+    }
+}
+
+// ---- drawing
+
+// A node's version of the item that is read: its rank, 0 where the node has none.
+#[derive(Clone, Copy)]
+struct Version {
+    node: usize,
+    rank: u16,
+}
+
 // Sets the edge from a to b.
 fn set_edge(mat: &mut [u8], a: usize, b: usize)
-    requires { (matrix_size ≤ length mat.old) × ((a < most_nodes) × (b < most_nodes)) }
+    requires matrix_fits { matrix_size ≤ length mat.old }
+    requires from_node { a < most_nodes }
+    requires to_node { b < most_nodes }
     ensures { mat.new ≡ with_edge mat.old a b }
 {
-    mat[a * 256 + b] = 1;
+    mat[a * MAX_COMMITTED + b] = 1;
 }
 
-// The edge for the version of node i, whose rank is p, beside k's read from j, whose version's rank is r: from i to j if it comes
-// before, from k to i if after; none where i is k or has no version.
-fn draw_version(mat: &mut [u8], i: usize, p: u16, k: usize, j: usize, r: u16)
-    requires fact_1 { matrix_size ≤ length mat.old }
-    requires fact_2 { i < most_nodes }
-    requires fact_3 { k < most_nodes }
-    requires fact_4 { (0 < r → j < most_nodes) }
-    ensures { Adds (One i p k j r) mat.old mat.new }
+// The edge for a node's version beside the reader's read of another, `source`: from the node to the source's if it comes before, from the
+// reader to the node if after; none where the node is the reader or has no version.
+fn draw_version(mat: &mut [u8], other: Version, reader: usize, source: Version)
+    requires matrix_fits { matrix_size ≤ length mat.old }
+    requires other_node { other.node < most_nodes }
+    requires reader_node { reader < most_nodes }
+    requires source_node { 0 < source.rank → source.node < most_nodes }
+    ensures { Adds (One other.node other.rank reader source.node source.rank) mat.old mat.new }
 {
-    if i == k {
+    if other.node == reader || other.rank == 0 {
         return;
     }
-    if p == 0 {
-        return;
-    }
-    if p < r {
-        set_edge(mat, i, j);
-        return;
-    }
-    if r < p {
-        set_edge(mat, k, i);
+    if other.rank < source.rank {
+        set_edge(mat, other.node, source.node);
+    } else if source.rank < other.rank {
+        set_edge(mat, reader, other.node);
     }
 }
 
-// The edges for every node's version of the item, beside k's read from j, whose version's rank is r.
+// The edges for every node's version of the item, beside the reader's read of `source`.
 fn draw_versions(
     mat: &mut [u8],
     count: usize,
     rank: &[u16],
-    k: usize,
-    j: usize,
-    r: u16,
+    reader: usize,
+    source: Version,
     item: usize,
 )
-    requires fact_1 { Room mat.old rank.now count item }
-    requires fact_2 { k < most_nodes }
-    requires fact_3 { (0 < r → j < most_nodes) }
-    ensures { Adds (Others rank.now item k j r count) mat.old mat.new }
+    requires room { Room mat.old rank.now count item }
+    requires reader_node { reader < most_nodes }
+    requires source_node { 0 < source.rank → source.node < most_nodes }
+    ensures { Adds (Others rank.now item reader source.node source.rank count) mat.old mat.new }
 {
-    let mut i: usize = 0;
-    while i < count {
-        draw_version(mat, i, rank[i * 64 + item], k, j, r);
-        i += 1;
+    for node in 0..count {
+        let other = Version {
+            node,
+            rank: rank[node * ITEMS + item],
+        };
+        draw_version(mat, other, reader, source);
     }
 }
 
 // The edges of node k's read of the item from node j, or from version 0 where j is no node's number: the matrix has them beside those
 // that it had. A read of one's own version draws none.
 pub fn draw_read(mat: &mut [u8], count: usize, rank: &[u16], k: usize, j: usize, item: usize)
-    requires fact_1 { Room mat.old rank.now count item }
-    requires fact_2 { k < count }
+    requires room { Room mat.old rank.now count item }
+    requires reader_node { k < count }
     ensures { Drew rank.now count k item j mat.old mat.new }
 {
     if j == k {
@@ -74,8 +105,12 @@ pub fn draw_read(mat: &mut [u8], count: usize, rank: &[u16], k: usize, j: usize,
     }
     if j < count {
         set_edge(mat, j, k);
-        draw_versions(mat, count, rank, k, j, rank[j * 64 + item], item);
+        let source = Version {
+            node: j,
+            rank: rank[j * ITEMS + item],
+        };
+        draw_versions(mat, count, rank, k, source, item);
         return;
     }
-    draw_versions(mat, count, rank, k, j, 0, item);
+    draw_versions(mat, count, rank, k, Version { node: j, rank: 0 }, item);
 }

@@ -1,17 +1,17 @@
 -- The two answers. If all nodes are taken, what stands in the order is the theory's order. If not, none of those left can be taken, so the walk among
--- them is closed: the part found is not empty, its nodes are among those left, and turned it is the theory's cycle.
+-- them is closed: it finds a part, which is not empty, its nodes are among those left, and turned it is the theory's cycle.
 -- Assumes nothing.
-use Prim.Native.Nat.{ℕ, ◌-◌, ◌≤◌, ◌<◌}
+use Prim.Native.Nat.{ℕ, ◌≤◌, ◌<◌}
 use native.Mathlib.Omega.{arith}
 use mathlib.Core.Path.{◌≡◌, refl, sym, ◌∙◌, ap, subst}
 use mathlib.Core.Logic.{◌≢◌}
 use mathlib.Core.List.Memᴰ
 use mathlib.Core.List.{List, [], ◌∷◌, ◌++◌}
-use mathlib.Core.Bool.{Bool, true, false}
-use lib.Dec.{ltb}
-use lib.ListN.{length, take, get_or, length-append, length-map}
-use lib.Seq.{slice, slice_empty, length-slice, length-take-le}
-use borrow.Author.Tests.{ltb-true, ltb-false}
+use mathlib.Core.Bool.{Bool, true}
+use lib.ListN.{length, take, drop, get_or, length-append, length-drop, length-map}
+use lib.Seq.{length-take-le}
+use Rattle.std.specs.Prelude.{Option, Some, None, IsSome, All, slice_range}
+use Rattle.std.specs.declared.ops.Range.{Range}
 use Rattle.lists.specs.Member.{◌∈◌}
 use Rattle.log_format.specs.Bytes.{splice}
 use Rattle.graph_theory.specs.Graph.{Decides, Cycle}
@@ -24,12 +24,11 @@ use Rattle.graph_theory.proofs.WalkingLaws.{walks_cycle, walked_rule}
 use Rattle.taking.specs.Nodes.{indices, left_of}
 use Rattle.taking.specs.Taken.{Taken}
 use Rattle.walking.specs.Walked.{part_of, Walked}
-use Rattle.graph.specs.Answer.{AllBelow, Turned, Answered}
-use Rattle.walking.specs.declared.Span.{Span}
+use Rattle.graph.specs.Answer.{Turned, Answered}
 use Rattle.graph.specs.declared.Verdict.TheVariants.{Accepted, Cycle as Ring}
 use Rattle.taking.proofs.NodesLaws.{index_below, up_from_rising, left_in}
 use Rattle.taking.proofs.TakenLaws.{empty}
-use Rattle.graph.proofs.AnswerLaws.{node_bytes, in_slice, turn_least}
+use Rattle.graph.proofs.AnswerLaws.{node_bytes, all_in, turn_least}
 
 -- the edges that a test passes
 abbrev Passes : (ℕ → ℕ → Bool) → ℕ → ℕ → Type 0
@@ -50,31 +49,30 @@ module _ (E : ℕ → ℕ → Bool) (n r : ℕ) (o d : List ℕ) (v : Taken E n 
 
   -- ---- all are taken
 
-  module _ (e : r ≡ n) (w : n ≤ length o) where
-    all_taken : verdict_of E (indices n) ≡ accepted (take n o)
-    all_taken =
-        let z : rest ≡ [] = sym v.left ∙ empty (left_of n d) (omega (arith, v.count)) in
-        let t : order ≡ take n o = sym v.taken ∙ ap (λ (k : ℕ). take k o) e in
-        ap (judge E order) z ∙ ap accepted t
+  -- the nodes taken
+  abbrev pub path : List ℕ
+  path = take r o
 
-    pub order_below : AllBelow n o 0 n
-    order_below i h g =
-        let m = subst (λ (k : ℕ). get_or o i 0 ∈ take k o) (sym e) (in_slice o n w 0 i h g) in
-        index_below n (get_or o i 0) (taken_in (Passes E) order (indices n) rest taken_away (get_or o i 0) (subst (λ (u : List ℕ). get_or o i 0 ∈ u) v.taken m))
+  -- each is one of the nodes
+  pub order_below : All (λ k. k < n) path
+  order_below = all_in (λ k. k < n) path
+      (λ x m. index_below n x (taken_in (Passes E) order (indices n) rest taken_away x (subst (λ (u : List ℕ). x ∈ u) v.taken m)))
 
-    pub answered_all : (nodes answer after : List ℕ) → after ≡ splice answer 0 (node_bytes nodes (slice 0 n o))
-        → Answered (renamed (λ (k : ℕ). get_or nodes k 0) (verdict_of E (indices n))) answer after (Accepted n)
-    answered_all nodes answer after b = rw all_taken (record {
-      found = ap Accepted (sym (length-map (take n o) (λ (k : ℕ). get_or nodes k 0) ∙ length-take-le n o w));
-      bytes = b;
-    })
+  pub answered_all : r ≡ n → r ≤ length o → (nodes answer after : List ℕ) → after ≡ splice answer 0 (node_bytes nodes path)
+      → Answered (renamed (λ (k : ℕ). get_or nodes k 0) (verdict_of E (indices n))) answer after (Accepted r)
+  answered_all e w nodes answer after b = rw all_taken (record {
+    found = ap Accepted (sym (length-map path (λ (k : ℕ). get_or nodes k 0) ∙ length-take-le r o w));
+    bytes = b;
+  })
+    where
+      all_taken : verdict_of E (indices n) ≡ accepted path
+      all_taken =
+          let z : rest ≡ [] = sym v.left ∙ empty (left_of n d) (omega (arith, v.count)) in
+          ap (judge E order) z ∙ ap accepted (sym v.taken)
 
   -- ---- some are left
 
-  module _ (m : ℕ) (after : List ℕ) (s : Span) (f : Walked E m (left_of n d) after s) (w : m ≤ length after) (k : r ≢ n) where
-    abbrev part : List ℕ
-    part = slice s.start s.end after
-
+  module _ (k : r ≢ n) where
     some_left : (a : ℕ) × ((l : List ℕ) × (left_of n d ≡ a ∷ l))
     some_left = go (left_of n d) refl
       where
@@ -82,49 +80,58 @@ module _ (E : ℕ → ℕ → Bool) (n r : ℕ) (o d : List ℕ) (v : Taken E n 
         go [] e = absurd (k (let z = ap length e in omega (arith, v.count)))
         go (a ∷ l) e = (a, (l, refl))
 
-    is_walked : part ≡ walked E (left_of n d)
-    unfolding part_of
-    is_walked = f.is
-
-    closed : Cycle (Passes E) (left_of n d) part
+    -- the theory's walk among them finds a cycle
+    closed : Cycle (Passes E) (left_of n d) (walked E (left_of n d))
     closed = go some_left.0 some_left.1.0 some_left.1.1
       where
-        go : (a : ℕ) (l : List ℕ) → left_of n d ≡ a ∷ l → Cycle (Passes E) (left_of n d) part
+        go : (a : ℕ) (l : List ℕ) → left_of n d ≡ a ∷ l → Cycle (Passes E) (left_of n d) (walked E (left_of n d))
         go a l e =
             let t = subst (λ (u : List ℕ). TakesAny (Passes E) (indices n) order u) (sym v.left ∙ e) taken_away in
             let y = walked_rule E (Passes E) (passes E) 0 a l (left_rising (Passes E) 0 order (indices n) (a ∷ l) t (up_from_rising 0 n))
             (left_stuck (Passes E) order (indices n) (a ∷ l) t) in
-            subst (λ (u : List ℕ). Cycle (Passes E) (left_of n d) u) (sym is_walked)
-            (subst (λ (u : List ℕ). Cycle (Passes E) u (walked E u)) (sym e) (walks_cycle (Passes E) (a ∷ l) a (walked E (a ∷ l)) (Memᴰ.head refl) y))
+            subst (λ (u : List ℕ). Cycle (Passes E) u (walked E u)) (sym e) (walks_cycle (Passes E) (a ∷ l) a (walked E (a ∷ l)) (Memᴰ.head refl) y)
 
-    pub cycle_some : s.start < s.end
-    cycle_some = go (ltb s.start s.end) refl
-      where
-        go : (b : Bool) → ltb s.start s.end ≡ b → s.start < s.end
-        go true e = ltb-true s.start s.end e
-        go false e =
-            let z : s.end ≡ s.start = omega (arith, ltb-false s.start s.end e, f.low) in
-            let y : part ≡ [] = ap (λ (u : ℕ). slice s.start u after) z ∙ slice_empty s.start after in
-            absurd (subst (λ (u : List ℕ). Cycle (Passes E) (left_of n d) u) y closed).closed
+    module _ (m : ℕ) (after : List ℕ) where
+      -- so the program's walk finds a part
+      pub part_found : (s : Option (Range ℕ)) → Walked E m (left_of n d) after s → IsSome s
+      unfolding part_of
+      part_found None f = absurd (subst (λ (u : List ℕ). Cycle (Passes E) (left_of n d) u) (sym f.is) closed).closed
+      part_found (Some s) f = refl
 
-    pub cycle_below : AllBelow n after s.start s.end
-    cycle_below i h g = (left_in n d (get_or after i 0) (closed.nodes (get_or after i 0) (in_slice after s.end (omega (arith, f.high)) s.start i h g))).0
+      module _ (s : Range ℕ) (f : Walked E m (left_of n d) after (Some s)) where
+        abbrev pub part : List ℕ
+        part = slice_range after s.start s.end
 
-    pub answered_cycle : (nodes answer out : List ℕ) → Turned nodes after s.start s.end answer out
-        → Answered (renamed (λ (k : ℕ). get_or nodes k 0) (verdict_of E (indices n))) answer out (Ring (s.end - s.start))
-    answered_cycle nodes answer out t =
-        let q = some_left in
-        let wide : s.end ≤ length after = omega (arith, f.high) in
-        let p = slice t.place s.end after ++ slice s.start t.place after in
-        let y : smallest_first (walked E (left_of n d)) ≡ p = ap smallest_first (sym is_walked) ∙ turn_least after s.end wide s.start t.place t.least in
-        let z : verdict_of E (indices n) ≡ cycle p =
-        ap (judge E order) (sym v.left ∙ q.1.1) ∙ ap (λ (u : List ℕ). cycle (smallest_first (walked E u))) (sym q.1.1) ∙ ap cycle y in
-        let c : length p ≡ s.end - s.start = omega (
-          arith,
-          length-append (slice t.place s.end after) (slice s.start t.place after),
-          length-slice t.place s.end after wide,
-          length-slice s.start t.place after (omega (arith, t.least.high)),
-          t.least.low,
-          t.least.high,
-        ) in
-        rw z (record { found = ap Ring (sym (length-map p (λ (k : ℕ). get_or nodes k 0) ∙ c)); bytes = t.is })
+        is_walked : part ≡ walked E (left_of n d)
+        unfolding part_of
+        is_walked = f.is
+
+        closes : Cycle (Passes E) (left_of n d) part
+        closes = subst (λ (u : List ℕ). Cycle (Passes E) (left_of n d) u) (sym is_walked) closed
+
+        pub cycle_some : 0 < length part
+        cycle_some = go part refl
+          where
+            go : (l : List ℕ) → part ≡ l → 0 < length part
+            go [] e = absurd (subst (λ (u : List ℕ). Cycle (Passes E) (left_of n d) u) e closes).closed
+            go (a ∷ l) e = omega (arith, ap length e)
+
+        pub cycle_below : All (λ i. i < n) part
+        cycle_below = all_in (λ i. i < n) part (λ x i. (left_in n d x (closes.nodes x i)).0)
+
+        pub answered_cycle : (nodes answer out : List ℕ) → Turned nodes part answer out
+            → Answered (renamed (λ (i : ℕ). get_or nodes i 0) (verdict_of E (indices n))) answer out (Ring (length part))
+        answered_cycle nodes answer out t =
+            let q = some_left in
+            let p = drop t.place part ++ take t.place part in
+            let y : smallest_first (walked E (left_of n d)) ≡ p = ap smallest_first (sym is_walked) ∙ turn_least part t.place t.least in
+            let z : verdict_of E (indices n) ≡ cycle p =
+            ap (judge E order) (sym v.left ∙ q.1.1) ∙ ap (λ (u : List ℕ). cycle (smallest_first (walked E u))) (sym q.1.1) ∙ ap cycle y in
+            let c : length p ≡ length part = omega (
+              arith,
+              length-append (drop t.place part) (take t.place part),
+              length-drop t.place part,
+              length-take-le t.place part (omega (arith, t.least.0)),
+              t.least.0,
+            ) in
+            rw z (record { found = ap Ring (sym (length-map p (λ (i : ℕ). get_or nodes i 0) ∙ c)); bytes = t.is })

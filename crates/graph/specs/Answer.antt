@@ -1,7 +1,7 @@
 -- The answer of the graph and what is written: the stamps of the verdict, 4 bytes each, high byte first.
 -- Assumes nothing.
-use Rattle.std.specs.Prelude.{ℕ, ◌≤◌, ◌<◌, ◌≡◌, List, ◌++◌, map, length, get_or}
-use Rattle.std.proofs.Math.Seq.{slice}
+use Rattle.std.specs.Prelude.{ℕ, ◌≡◌, List, ◌++◌, map, take, drop, length, get_or, nat_lt}
+use Rattle.std.specs.List.{IsFirstBest}
 use Rattle.log_format.specs.Bytes.{stamp_bytes, splice}
 use Rattle.graph_theory.specs.Verdict.{Verdict, accepted, cycle, stamps_of, verdict_of}
 use Rattle.graph_theory.specs.Standing.{renamed}
@@ -19,22 +19,11 @@ found_number (Cycle n) = n
 abbrev pub stamps_at : List ℕ → List ℕ → List ℕ
 stamps_at nodes l = map (λ (k : ℕ). get_or nodes k 0) l
 
--- the numbers from f to before t are below n
-abbrev pub AllBelow : ℕ → List ℕ → ℕ → ℕ → Type 0
-AllBelow n l f t = (i : ℕ) → f ≤ i → i < t → get_or l i 0 < n
-
--- q is the first place from f to before t of the smallest number there
-pub record LeastAt (l : List ℕ) (f t q : ℕ) : Type 0 where
-  pub low : f ≤ q
-  pub high : q < t
-  pub front : (j : ℕ) → f ≤ j → j < q → get_or l q 0 < get_or l j 0
-  pub back : (j : ℕ) → q ≤ j → j < t → get_or l q 0 ≤ get_or l j 0
-
--- the stamps of the part from f to before t of the path are written, turned so that the smallest comes first
-pub record Turned (nodes path : List ℕ) (f t : ℕ) (answer after : List ℕ) : Type 0 where
+-- the stamps of a cycle of nodes are written, turned so that the smallest comes first
+pub record Turned (nodes cycle answer after : List ℕ) : Type 0 where
   pub place : ℕ
-  pub least : LeastAt path f t place
-  pub is : after ≡ splice answer 0 (stamp_bytes (stamps_at nodes (slice place t path ++ slice f place path)))
+  pub least : IsFirstBest nat_lt cycle (length cycle) place
+  pub is : after ≡ splice answer 0 (stamp_bytes (stamps_at nodes (drop place cycle ++ take place cycle)))
 
 -- the verdict on the graph of a matrix over the nodes below count, with their stamps
 unfoldable pub verdict_at : List ℕ → ℕ → List ℕ → Verdict

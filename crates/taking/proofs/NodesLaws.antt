@@ -1,7 +1,7 @@
 -- The nodes by number and those of them that are left: who is among them, that they rise, how many pass a test, and which is the first. A scan that
 -- has passed over nodes which fail its test finds the first that passes.
 -- Assumes nothing.
-use Prim.Native.Nat.{ℕ, zero, suc, ◌+◌, ◌-◌, ◌≤◌, ◌<◌}
+use Prim.Native.Nat.{ℕ, zero, suc, ◌+◌, ◌≤◌, ◌<◌}
 use native.Mathlib.Numerals.{add-one}
 use native.Mathlib.Omega.{arith}
 use mathlib.Core.Path.{◌≡◌, refl, sym, ◌∙◌, ap, subst}
@@ -10,16 +10,20 @@ use mathlib.Core.List.Memᴰ
 use mathlib.Core.List.{List, [], ◌∷◌}
 use mathlib.Core.Bool.{Bool, true, false, cond}
 use mathlib.Core.Option.{some, none}
-use lib.Dec.{eqb}
-use lib.ListN.{length, get_or}
-use borrow.Author.Tests.{eqb-true, eqb-false, eq-eqb, ne_eqb}
+use lib.Dec.{eqb, ltb}
+use lib.ListN.{length, take, get_or}
+use lib.Seq.{get_or-take, length-take-le}
+use borrow.Author.Tests.{eqb-true, eqb-false, eq-eqb, ne_eqb, ltb-true, ltb-false}
+use Rattle.std.specs.Prelude.{Option, Some, None, MatchOption, filter, position}
+use Rattle.std.specs.List.{position_or_len, range_with_len}
+use Rattle.std.proofs.lemmas.List.Sums.{passes_at_first, fails_before_first}
 use Rattle.lists.specs.Member.{◌∈◌, Rising}
 use Rattle.lists.specs.Order.{without}
 use Rattle.lists.specs.Tests.{any, first}
 use Rattle.lists.proofs.TestLaws.{false_true, any_true}
 use Rattle.lists.proofs.OrderLaws.{in_nil, in_tail, in_without, of_without, distinct_without}
 use Rattle.lists.proofs.RisingLaws.{rising_above, rising_lower, rising_distinct, rising_without, rising_same}
-use Rattle.taking.specs.Nodes.{up_from, indices, kept, bit, tally, is_left, left_of, FirstOf}
+use Rattle.taking.specs.Nodes.{up_from, indices, bit, tally, is_left, left_of, FirstOf}
 
 -- ---- the nodes
 
@@ -43,41 +47,46 @@ pub up_from_rising : (i m : ℕ) → Rising i (up_from i m)
 up_from_rising i zero = tt
 up_from_rising i (suc m) = (omega arith, up_from_rising (suc i) m)
 
+-- the library's range
+pub range-up_from : (i m : ℕ) → range_with_len i m ≡ up_from i m
+range-up_from i zero = refl
+range-up_from i (suc m) = rw (add-one i, range-up_from (suc i) m) refl
+
 pub length-up_from : (i m : ℕ) → length (up_from i m) ≡ m
 length-up_from i zero = refl
 length-up_from i (suc m) = ap suc (length-up_from (suc i) m)
 
 module _ (p : ℕ → Bool) where
-  kept_in : (l : List ℕ) (x : ℕ) → x ∈ kept p l → (x ∈ l) × (p x ≡ true)
-  kept_in [] x m = in_nil m
-  kept_in (a ∷ l) x m = go (p a) refl m (λ n. kept_in l x n)
+  filter_in : (l : List ℕ) (x : ℕ) → x ∈ filter p l → (x ∈ l) × (p x ≡ true)
+  filter_in [] x m = in_nil m
+  filter_in (a ∷ l) x m = go (p a) refl m (λ n. filter_in l x n)
     where
-      go : (b : Bool) → p a ≡ b → x ∈ cond b (a ∷ kept p l) (kept p l) → (x ∈ kept p l → (x ∈ l) × (p x ≡ true)) → (x ∈ a ∷ l) × (p x ≡ true)
+      go : (b : Bool) → p a ≡ b → x ∈ cond b (a ∷ filter p l) (filter p l) → (x ∈ filter p l → (x ∈ l) × (p x ≡ true)) → (x ∈ a ∷ l) × (p x ≡ true)
       go true e (Memᴰ.head q) ih = (Memᴰ.head q, rw q e)
       go true e (Memᴰ.tail n) ih = (Memᴰ.tail (ih n).0, (ih n).1)
       go false e n ih = (Memᴰ.tail (ih n).0, (ih n).1)
 
-  in_kept : (l : List ℕ) (x : ℕ) → x ∈ l → p x ≡ true → x ∈ kept p l
-  in_kept [] x m t = in_nil m
-  in_kept (a ∷ l) x m t = go (p a) refl (Memᴰ.cases_cons m) (λ n. in_kept l x n t)
+  in_filter : (l : List ℕ) (x : ℕ) → x ∈ l → p x ≡ true → x ∈ filter p l
+  in_filter [] x m t = in_nil m
+  in_filter (a ∷ l) x m t = go (p a) refl (Memᴰ.cases_cons m) (λ n. in_filter l x n t)
     where
-      go : (b : Bool) → p a ≡ b → (x ≡ a) ⊎ (x ∈ l) → (x ∈ l → x ∈ kept p l) → x ∈ cond b (a ∷ kept p l) (kept p l)
+      go : (b : Bool) → p a ≡ b → (x ≡ a) ⊎ (x ∈ l) → (x ∈ l → x ∈ filter p l) → x ∈ cond b (a ∷ filter p l) (filter p l)
       go true e (inl q) ih = Memᴰ.head q
       go true e (inr n) ih = Memᴰ.tail (ih n)
       go false e (inl q) ih = false_true (sym (rw q e) ∙ t)
       go false e (inr n) ih = ih n
 
-  kept_rising : (i : ℕ) (l : List ℕ) → Rising i l → Rising i (kept p l)
-  kept_rising i [] r = tt
-  kept_rising i (a ∷ l) r = go (p a) (kept_rising (suc a) l r.1)
+  filter_rising : (i : ℕ) (l : List ℕ) → Rising i l → Rising i (filter p l)
+  filter_rising i [] r = tt
+  filter_rising i (a ∷ l) r = go (p a) (filter_rising (suc a) l r.1)
     where
-      go : (b : Bool) → Rising (suc a) (kept p l) → Rising i (cond b (a ∷ kept p l) (kept p l))
+      go : (b : Bool) → Rising (suc a) (filter p l) → Rising i (cond b (a ∷ filter p l) (filter p l))
       go true ih = (r.0, ih)
-      go false ih = rising_lower i (suc a) (kept p l) (omega (arith, r.0)) ih
+      go false ih = rising_lower i (suc a) (filter p l) (omega (arith, r.0)) ih
 
-  kept_all : (l : List ℕ) → ((x : ℕ) → x ∈ l → p x ≡ true) → kept p l ≡ l
-  kept_all [] h = refl
-  kept_all (a ∷ l) h = rw (h a (Memᴰ.head refl)) (ap (λ (t : List ℕ). a ∷ t) (kept_all l (λ x m. h x (Memᴰ.tail m))))
+  filter_all : (l : List ℕ) → ((x : ℕ) → x ∈ l → p x ≡ true) → filter p l ≡ l
+  filter_all [] h = refl
+  filter_all (a ∷ l) h = rw (h a (Memᴰ.head refl)) (ap (λ (t : List ℕ). a ∷ t) (filter_all l (λ x m. h x (Memᴰ.tail m))))
 
 -- ---- how many pass a test
 
@@ -113,15 +122,14 @@ module _ (p : ℕ → Bool) where
       let t : bit (p r.0) ≡ 1 = rw r.2 in
       omega (arith, tally-without r.0 l r.1)
 
-  -- a tally node by node
-  pub tally_next : (j n : ℕ) → j < n → tally p (up_from j (n - j)) ≡ bit (p j) + tally p (up_from (j + 1) (n - (j + 1)))
-  tally_next j n h = rw (let e : n - j ≡ suc (n - (j + 1)) = omega arith in e) (rw (add-one j))
-
-  pub tally_end : (n : ℕ) → tally p (up_from n (n - n)) ≡ 0
-  tally_end n = rw (let e : n - n ≡ 0 = omega arith in e)
-
-  pub tally-start : (n : ℕ) → 0 + tally p (up_from 0 (n - 0)) ≡ tally p (indices n)
-  tally-start n = rw (let e : n - 0 ≡ n = omega arith in e) (omega arith)
+  -- a tally is how many of them a filter leaves
+  pub tally-filter : (l : List ℕ) → length (filter p l) ≡ tally p l
+  tally-filter [] = refl
+  tally-filter (a ∷ l) = go (p a) (tally-filter l)
+    where
+      go : (b : Bool) → length (filter p l) ≡ tally p l → length (cond b (a ∷ filter p l) (filter p l)) ≡ bit b + tally p l
+      go true ih = omega (arith, ih)
+      go false ih = omega (arith, ih)
 
 -- ---- the first of a rising list that passes a test
 
@@ -145,19 +153,19 @@ module _ (p : ℕ → Bool) where
 module _ (n : ℕ) (d : List ℕ) where
   pub left_in : (x : ℕ) → x ∈ left_of n d → (x < n) × (is_left d x ≡ true)
   unfolding left_of
-  left_in x m = let r = kept_in (is_left d) (indices n) x m in (index_below n x r.0, r.1)
+  left_in x m = let r = filter_in (is_left d) (indices n) x m in (index_below n x r.0, r.1)
 
   pub in_left : (x : ℕ) → x < n → is_left d x ≡ true → x ∈ left_of n d
   unfolding left_of
-  in_left x h t = in_kept (is_left d) (indices n) x (in_up_from 0 n x (omega arith) (omega arith)) t
+  in_left x h t = in_filter (is_left d) (indices n) x (in_up_from 0 n x (omega arith) (omega arith)) t
 
   pub left_rising : Rising 0 (left_of n d)
   unfolding left_of
-  left_rising = kept_rising (is_left d) 0 (indices n) (up_from_rising 0 n)
+  left_rising = filter_rising (is_left d) 0 (indices n) (up_from_rising 0 n)
 
   pub all_left : ((k : ℕ) → k < n → is_left d k ≡ true) → left_of n d ≡ indices n
   unfolding left_of
-  all_left h = kept_all (is_left d) (indices n) (λ x m. h x (index_below n x m))
+  all_left h = filter_all (is_left d) (indices n) (λ x m. h x (index_below n x m))
 
 pub left_true : (d : List ℕ) (k : ℕ) → get_or d k 0 ≢ 0 → is_left d k ≡ true
 left_true d k h = rw (ne_eqb (get_or d k 0) 0 h)
@@ -187,26 +195,39 @@ left_without n k d e g h =
         (subst (λ (y : ℕ). y ∈ without k (left_of n d)) q m) in
         in_left n e x r.0 (h x r.0 z ∙ r.1)
 
--- ---- a scan
+-- ---- the first that passes a test
 
--- none below k passes the test
-pub record Passed (p : ℕ → Bool) (n k : ℕ) : Type 0 where
-  pub within : k ≤ n
-  pub before : (j : ℕ) → j < k → p j ≡ false
+module _ (p : ℕ → Bool) where
+  -- as a search over the range finds it
+  pub first-range : (n : ℕ) (r : Option ℕ)
+      → MatchOption r ((j : ℕ) → 0 ≤ j → j < n → p j ≡ false) (λ i. (0 ≤ i) × (i < n) × (p i ≡ true) × ((j : ℕ) → 0 ≤ j → j < i → p j ≡ false))
+      → FirstOf p n r
+  first-range n None h = λ j g. h j (omega arith) g
+  first-range n (Some i) h = record { within = h.1; here = h.2; before = λ j g. h.3 j (omega arith) g }
 
-module _ (p : ℕ → Bool) (n : ℕ) where
-  pub scan_none : Passed p n 0
-  scan_none = record { within = omega arith; before = λ j h. absurd (omega arith) }
-
-  pub scan_next : (k : ℕ) → Passed p n k → k < n → p k ≡ false → Passed p n (k + 1)
-  scan_next k c h e = record { within = omega arith; before = λ j g. go j g (eqb j k) refl }
+  -- as the first of n places of a list whose value passes it
+  pub first-position : (xs : List ℕ) (n : ℕ) → n ≤ length xs → (r : Option ℕ) → r ≡ position p (take n xs)
+      → FirstOf (λ (k : ℕ). p (get_or xs k 0)) n r
+  first-position xs n w r e =
+      subst (λ (o : Option ℕ). FirstOf (λ (k : ℕ). p (get_or xs k 0)) n o) (sym e)
+      (go (ltb (position_or_len p (take n xs)) (length (take n xs))) refl)
     where
-      go : (j : ℕ) → j < k + 1 → (b : Bool) → eqb j k ≡ b → p j ≡ false
-      go j g true f = rw (eqb-true j k f) e
-      go j g false f = let z = eqb-false j k f in c.before j (omega (arith, z))
+      size : length (take n xs) ≡ n
+      size = length-take-le n xs w
 
-  pub scan_hit : (k : ℕ) → Passed p n k → p k ≡ true → FirstOf p n k
-  scan_hit k c e = record { within = c.within; before = c.before; here = λ h. e }
+      same : (k : ℕ) → k < n → get_or (take n xs) k 0 ≡ get_or xs k 0
+      same k h = get_or-take n xs k 0 h
 
-  pub scan_end : (k : ℕ) → Passed p n k → n ≤ k → FirstOf p n k
-  scan_end k c h = record { within = c.within; before = c.before; here = λ g. absurd (omega arith) }
+      go : (b : Bool) → ltb (position_or_len p (take n xs)) (length (take n xs)) ≡ b
+          → FirstOf (λ (k : ℕ). p (get_or xs k 0)) n (cond b (Some (position_or_len p (take n xs))) None)
+      go true f =
+          let h = ltb-true (position_or_len p (take n xs)) (length (take n xs)) f in
+          let g : position_or_len p (take n xs) < n = omega (arith, size) in
+          record {
+            within = g;
+            here = ap p (sym (same _ g)) ∙ passes_at_first p (take n xs) 0 h;
+            before = λ j l. ap p (sym (same j (omega arith))) ∙ fails_before_first p (take n xs) j 0 l;
+          }
+      go false f = λ j l.
+          let h = ltb-false (position_or_len p (take n xs)) (length (take n xs)) f in
+          ap p (sym (same j l)) ∙ fails_before_first p (take n xs) j 0 (omega (arith, size))

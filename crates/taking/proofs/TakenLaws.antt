@@ -18,7 +18,7 @@ use Rattle.lists.specs.Order.{without}
 use Rattle.lists.specs.Tests.{any}
 use Rattle.lists.proofs.OrderLaws.{length_without}
 use Rattle.graph_theory.specs.Taking.{free, next, take_all}
-use Rattle.taking.specs.Nodes.{indices, bit, tally, is_left, left_of, FirstOf}
+use Rattle.taking.specs.Nodes.{indices, bit, tally, is_left, left_of, NoneOf, IsFirst}
 use Rattle.taking.specs.Taken.{Counted, Tallied, Lowered, Taken}
 use Rattle.taking.proofs.NodesLaws.{
   length-up_from,
@@ -90,6 +90,20 @@ module _ (E : ℕ → ℕ → Bool) (n k : ℕ) (d : List ℕ) where
       go i g true f = rw (eqb-true i j f, get_or-set_same e j v 0 at, q, l.rest j (omega arith)) refl
       go i g false f = let z = eqb-false i j f in get_or-set_other e j i v 0 z ∙ l.done i (omega (arith, z))
 
+  -- a node without an edge from k
+  pub lower_skip : (j : ℕ) (e : List ℕ) → j < n → E k j ≡ false → Lower E n k d j e → Lower E n k d (j + 1) e
+  lower_skip j e h q l = record {
+    within = omega arith;
+    room = l.room;
+    size = l.size;
+    done = λ i g. go i g (eqb i j) refl;
+    rest = λ i g. l.rest i (omega arith);
+  }
+    where
+      go : (i : ℕ) → i < j + 1 → (b : Bool) → eqb i j ≡ b → get_or e i 0 ≡ get_or d i 0 - bit (E k i)
+      go i g true f = rw (eqb-true i j f, q, l.rest j (omega arith)) (omega arith)
+      go i g false f = let z = eqb-false i j f in l.done i (omega (arith, z))
+
   pub lower_all : (j : ℕ) (e : List ℕ) → k < n → n ≤ j → Lower E n k d j e → Lowered E n k d (set e k 0)
   lower_all j e h g l = record {
     gone = get_or-set_same e k 0 0 (omega arith);
@@ -110,7 +124,7 @@ module _ (E : ℕ → ℕ → Bool) where
   take_end (a ∷ l) e = (rw e refl, rw e refl)
 
 -- the test of `first_free`
-abbrev is_one : List ℕ → ℕ → Bool
+abbrev pub is_one : List ℕ → ℕ → Bool
 is_one d k = eqb (get_or d k 0) 1
 
 module _ (E : ℕ → ℕ → Bool) (n : ℕ) (d : List ℕ) (t : Tallied E n d) where
@@ -124,14 +138,14 @@ module _ (E : ℕ → ℕ → Bool) (n : ℕ) (d : List ℕ) (t : Tallied E n d)
       go true e f = let z = tally_some (λ (j : ℕ). E j k) (left_of n d) e in ne_eqb (get_or d k 0) 1 (λ q. omega arith)
       go false e f = let z = tally_none (λ (j : ℕ). E j k) (left_of n d) e in eq-eqb (get_or d k 0) 1 (omega arith)
 
-  next_is : (k : ℕ) → FirstOf (is_one d) n k → k < n → (k ∈ left_of n d) × (next E (left_of n d) ≡ some k)
-  next_is k s h =
-      let q = eqb-true (get_or d k 0) 1 (s.here h) in
-      let m = in_left n d k h (left_true d k (λ z. omega arith)) in
-      (m, first_is (free E (left_of n d)) 0 (left_of n d) k (left_rising n d) m (sym (one_free k m) ∙ s.here h) (λ j i g. sym (one_free j i) ∙ s.before j g))
+  next_is : (k : ℕ) → IsFirst (is_one d) n k → (k ∈ left_of n d) × (next E (left_of n d) ≡ some k)
+  next_is k s =
+      let q = eqb-true (get_or d k 0) 1 s.here in
+      let m = in_left n d k s.within (left_true d k (λ z. omega arith)) in
+      (m, first_is (free E (left_of n d)) 0 (left_of n d) k (left_rising n d) m (sym (one_free k m) ∙ s.here) (λ j i g. sym (one_free j i) ∙ s.before j g))
 
-  no_next : (k : ℕ) → FirstOf (is_one d) n k → k ≡ n → next E (left_of n d) ≡ none
-  no_next k s h = first_not (free E (left_of n d)) (left_of n d) (λ j i. let r = left_in n d j i in sym (one_free j i) ∙ s.before j (omega arith))
+  no_next : NoneOf (is_one d) n → next E (left_of n d) ≡ none
+  no_next s = first_not (free E (left_of n d)) (left_of n d) (λ j i. sym (one_free j i) ∙ s j (left_in n d j i).0)
 
   module _ (k : ℕ) (m : k ∈ left_of n d) (e : List ℕ) (l : Lowered E n k d e) where
     -- a node's number, with its edge from k apart
@@ -190,10 +204,10 @@ module _ (E : ℕ → ℕ → Bool) (n : ℕ) where
       }
 
   module _ (d₀ o₀ d o : List ℕ) (c : ℕ) (v : Taking E n d₀ o₀ d o c) where
-    pub taking_next : (k : ℕ) (e : List ℕ) → c < n → FirstOf (is_one d) n k → k < n → Lowered E n k d e → length e ≡ length d
+    pub taking_next : (k : ℕ) (e : List ℕ) → c < n → IsFirst (is_one d) n k → Lowered E n k d e → length e ≡ length d
         → Taking E n d₀ o₀ e (set o c k) (c + 1)
-    taking_next k e h s g l z =
-        let f = next_is E n d v.tallied k s g in
+    taking_next k e h s l z =
+        let f = next_is E n d v.tallied k s in
         let q = next_left E n d v.tallied k f.0 e l in
         let st = take_step E (left_of n d) k f.0 f.1 in
         record {
@@ -208,9 +222,9 @@ module _ (E : ℕ → ℕ → Bool) (n : ℕ) where
           left = v.left ∙ rw (st.1, q) refl;
         }
 
-    pub taking_stop : (k : ℕ) → FirstOf (is_one d) n k → k ≡ n → Taken E n o d c
-    taking_stop k s h =
-        let z = take_end E (left_of n d) (no_next E n d v.tallied k s h) in
+    pub taking_stop : NoneOf (is_one d) n → Taken E n o d c
+    taking_stop s =
+        let z = take_end E (left_of n d) (no_next E n d v.tallied s) in
         record { count = omega (arith, v.count); taken = sym (v.taken ∙ rw z.0 (append-nil (take c o))); left = sym (v.left ∙ z.1) }
 
     pub taking_full : n ≤ c → Taken E n o d c

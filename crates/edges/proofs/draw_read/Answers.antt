@@ -9,7 +9,7 @@ returns-then-j-k c = drew_own _ _ _ _ _ _ c.if-j-k.true
 pub returns-then-j-count : goal.returns-then-j-count
 returns-then-j-count c =
     let h = c.requires in
-    drew_other _ _ _ _ _ c.if-j-k.false _ _ c.if-j-count.true h.fact_2 h.fact_1.few h.fact_1.matrix (rw c.set_edge.ensures at c.draw_versions.ensures)
+    drew_other _ _ _ _ _ c.if-j-k.false _ _ c.if-j-count.true h.reader_node h.room.few h.room.matrix (rw c.set_edge.ensures at c.draw_versions.ensures)
 
 pub returns : goal.returns
 returns c = drew_initial _ _ _ _ _ c.if-j-k.false _ _ c.if-j-count.false c.draw_versions-2.ensures

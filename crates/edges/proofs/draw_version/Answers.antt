@@ -3,12 +3,14 @@ use Rattle.edges.proofs.AddingLaws.{one_before, one_after}
 use native.Mathlib.Omega.{arith}
 use Rattle.edges.proofs.draw_version.Goals as goal
 
-pub returns-then-p-r : goal.returns-then-p-r
-returns-then-p-r c =
+pub returns-then-other-source : goal.returns-then-other-source
+returns-then-other-source c =
     let h = c.requires in
-    rw c.set_edge.ensures (one_before _ _ _ _ _ _ h.fact_1 h.fact_2 (λ e. omega arith) (λ e. omega arith) (h.fact_4 (omega arith)) c.if-p-r.true)
+    rw c.set_edge.ensures
+    (one_before _ _ _ _ _ _ h.matrix_fits h.other_node (λ e. omega arith) (λ e. omega arith) (h.source_node (omega arith)) c.if-other-source.true)
 
-pub returns-then-r-p : goal.returns-then-r-p
-returns-then-r-p c =
+pub returns-then-source-other : goal.returns-then-source-other
+returns-then-source-other c =
     let h = c.requires in
-    rw c.set_edge-then-r-p.ensures (one_after _ _ _ _ _ _ h.fact_1 h.fact_2 (λ e. omega arith) (λ e. omega arith) h.fact_3 c.if-r-p.true)
+    rw c.set_edge-then-source-other.ensures
+    (one_after _ _ _ _ _ _ h.matrix_fits h.other_node (λ e. omega arith) (λ e. omega arith) h.reader_node c.if-source-other.true)

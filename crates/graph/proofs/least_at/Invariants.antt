@@ -1,10 +1,7 @@
--- `graph::least_at` meets its contract: q is the first place of the smallest passed.
-use Prim.Native.Nat.{◌-◌}
-use Rattle.graph.proofs.AnswerLaws.{Least}
+-- `graph::least_at` meets its contract: among the nodes passed, it is the first place of the smallest.
+use Rattle.std.proofs.Common.{nat_lt}
+use Rattle.std.specs.List.{IsFirstBest}
 use Rattle.graph.proofs.least_at.Given as goal
 
 abbrev pub invariant-loop-i : goal.invariant-loop-i
-invariant-loop-i l = Least l.path l.from l.end l.i l.q
-
-abbrev pub decreases-loop-i : goal.decreases-loop-i
-decreases-loop-i l = l.end - l.i
+invariant-loop-i l = IsFirstBest nat_lt l.cycle l.i l.least

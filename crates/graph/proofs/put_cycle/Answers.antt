@@ -4,4 +4,7 @@ use Rattle.graph.proofs.put_cycle.Goals as goal
 
 pub returns : goal.returns
 returns c =
-    turned _ _ _ _ _ _ _ _ c.least_at-q.ensures c.requires.fact_2 c.requires.fact_3 c.put_stamps.ensures c.put_stamps-2.ensures
+    let s = c.split_at.ensures in
+    let back = rw s.back at c.put_stamps.ensures in
+    let front = rw (s.back, s.front) at c.put_stamps-2.ensures in
+    turned c.args.nodes.now c.args.cycle.now c.least_at.result c.args.answer.now c.put_stamps.new.answer _ c.least_at.ensures c.requires.room back front

@@ -7,4 +7,5 @@ use Rattle.taking.proofs.count_all.Goals as goal
 
 pub overflow_add-deg : goal.overflow_add-deg
 overflow_add-deg c =
-    omega (arith, tally_le (λ (j : ℕ). edge_at c.args.mat.now j c.loop-k.k) (indices c.args.count), length-up_from 0 c.args.count)
+    let g = c.args.graph in
+    omega (arith, tally_le (λ (j : ℕ). edge_at g.matrix.now j c.loop-k.k) (indices g.count), length-up_from 0 g.count)
