@@ -14,7 +14,7 @@ use lib.Dec.{eqb, ltb}
 use lib.ListN.{length, take, get_or}
 use lib.Seq.{get_or-take, length-take-le}
 use borrow.Author.Tests.{eqb-true, eqb-false, eq-eqb, ne_eqb, ltb-true, ltb-false}
-use Rattle.std.specs.Prelude.{Option, Some, None, MatchOption, filter, position}
+use Rattle.std.specs.Prelude.{Option, Some, None, filter, position}
 use Rattle.std.specs.List.{position_or_len, range_with_len}
 use Rattle.std.proofs.lemmas.List.Sums.{passes_at_first, fails_before_first}
 use Rattle.lists.specs.Member.{◌∈◌, Rising}
@@ -198,14 +198,7 @@ left_without n k d e g h =
 -- ---- the first that passes a test
 
 module _ (p : ℕ → Bool) where
-  -- as a search over the range finds it
-  pub first-range : (n : ℕ) (r : Option ℕ)
-      → MatchOption r ((j : ℕ) → 0 ≤ j → j < n → p j ≡ false) (λ i. (0 ≤ i) × (i < n) × (p i ≡ true) × ((j : ℕ) → 0 ≤ j → j < i → p j ≡ false))
-      → FirstOf p n r
-  first-range n None h = λ j g. h j (omega arith) g
-  first-range n (Some i) h = record { within = h.1; here = h.2; before = λ j g. h.3 j (omega arith) g }
-
-  -- as the first of n places of a list whose value passes it
+  -- the first of n places of a list whose value passes it
   pub first-position : (xs : List ℕ) (n : ℕ) → n ≤ length xs → (r : Option ℕ) → r ≡ position p (take n xs)
       → FirstOf (λ (k : ℕ). p (get_or xs k 0)) n r
   first-position xs n w r e =
