@@ -43,7 +43,7 @@ pub fn draw_log(log: &[u8], nodes: &[u32], count: usize, rank: &[u16], mat: &mut
     requires { Drawable nodes.now rank.now count mat.old }
     ensures { DrewAll log.now nodes.now rank.now count mat.new }
 {
-    let mut at = Place(Place::FIRST);
+    let mut at = Place::FIRST;
     while let Ok(Some((record, next))) = log_reader::decode_at(log, at) {
         draw_record(mat, nodes, count, rank, record);
         at = next;

@@ -54,7 +54,7 @@ fn walk(log: &[u8], map: &mut [u64]) -> Judged
     requires { (Lent map.old) × ((4 ≤ length log.now) × (length log.now ≤ max_log)) }
     ensures { Walked log.now map.new result }
 {
-    let mut at: usize = Place::FIRST;
+    let mut at: usize = Place::FIRST.0;
     let mut k: usize = 0;
     loop {
         let field = match log_reader::decode_at(log, Place(at)) {
@@ -107,7 +107,7 @@ fn settle(log: &[u8], map: &[u64], k: usize) -> Judged
     if numbers::MAX_COMMITTED < k {
         return Judged::Refused(26, Place(0));
     }
-    let mut at: usize = Place::FIRST;
+    let mut at: usize = Place::FIRST.0;
     loop {
         let Ok(Some((r, p))) = log_reader::decode_at(log, Place(at)) else {
             return Judged::Passed(k);
@@ -154,7 +154,7 @@ fn gather(log: &[u8], nodes: &mut [u32]) -> usize
     requires { (Passes log.now) × (most_committed ≤ length nodes.old) }
     ensures { Nodes log.now nodes.old nodes.new result }
 {
-    let mut at: usize = Place::FIRST;
+    let mut at: usize = Place::FIRST.0;
     let mut n: usize = 0;
     loop {
         let Ok(Some((r, p))) = log_reader::decode_at(log, Place(at)) else {

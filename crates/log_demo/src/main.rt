@@ -77,7 +77,7 @@ fn show(rt: &impl Print, log: &[u8]) -> io::Result<()> {
         Err(FormError::BadField(place)) => return println!(rt; "refused 22 {}", place.0),
     };
     println!(rt; "records {count}")?;
-    let mut at = Place(Place::FIRST);
+    let mut at = Place::FIRST;
     for _ in 0..count {
         let Ok(Some((record, next))) = log_reader::decode_at(log, at) else {
             return Ok(());
