@@ -8,9 +8,7 @@ ghost use Rattle.edges.specs.Matrix.{matrix_size};
 ghost use Rattle.drawing.specs.Drawing.{Tables, DrewEvent, Drawable, DrewAll};
 
 use log_format::{Place, Record};
-
-// The largest item, as a record has it.
-const MAX_ITEM: u8 = numbers::MAX_ITEM as u8;
+use numbers::MAX_ITEM;
 
 // Draws the edges of a record: those of a read by a committed transaction; none for any other.
 fn draw_record(mat: &mut [u8], nodes: &[u32], count: usize, rank: &[u16], r: Record)
@@ -26,15 +24,15 @@ fn draw_record(mat: &mut [u8], nodes: &[u32], count: usize, rank: &[u16], r: Rec
     else {
         return;
     };
-    let k = sorted::find(nodes, count, stamp.0);
-    if count <= k {
+    let nodes = &nodes[..count];
+    let Some(reader) = sorted::find(nodes, stamp.0) else {
         return;
-    }
+    };
     if MAX_ITEM < item {
         return;
     }
-    let j = sorted::find(nodes, count, version.0);
-    edges::draw_read(mat, count, rank, k, j, item as usize);
+    let source = sorted::find(nodes, version.0);
+    edges::draw_read(mat, count, rank, reader, source, item as usize);
 }
 
 // Draws all reads of a log into a matrix of zeros. If the log passes, and the nodes and ranks are those of it and a version order, the matrix then has its

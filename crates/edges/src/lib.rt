@@ -3,7 +3,7 @@
 // node's version among the item's versions, oldest first, or 0 where it has none.
 #![tactic(auto)]
 
-ghost use Rattle.std.specs.Prelude.{◌≡◌, ◌≤◌, ◌<◌, length};
+ghost use Rattle.std.specs.Prelude.{◌≡◌, ◌≤◌, ◌<◌, length, unwrap_or, IfSome};
 ghost use Rattle.edges.specs.Matrix.{most_nodes, matrix_size, edge_at, with_edge};
 ghost use Rattle.edges.specs.Drawn.{Room, Drew};
 ghost use Rattle.edges.specs.Adding.{Adds, One, Others};
@@ -93,24 +93,37 @@ fn draw_versions(
     }
 }
 
-// The edges of node k's read of the item from node j, or from version 0 where j is no node's number: the matrix has them beside those
-// that it had. A read of one's own version draws none.
-pub fn draw_read(mat: &mut [u8], count: usize, rank: &[u16], k: usize, j: usize, item: usize)
+// The edges of node k's read of the item from a node, or from version 0 where that is none: the matrix has them beside those that it had.
+// A read of one's own version draws none.
+pub fn draw_read(
+    mat: &mut [u8],
+    count: usize,
+    rank: &[u16],
+    k: usize,
+    source: Option<usize>,
+    item: usize,
+)
     requires room { Room mat.old rank.now count item }
     requires reader_node { k < count }
-    ensures { Drew rank.now count k item j mat.old mat.new }
+    requires source_node { IfSome source (λ j. j < count) }
+    ensures { Drew rank.now count k item (unwrap_or source count) mat.old mat.new }
 {
+    let Some(j) = source else {
+        // Version 0 comes before all others, so no edge leads to it, and its node stands in none.
+        let initial = Version {
+            node: count,
+            rank: 0,
+        };
+        draw_versions(mat, count, rank, k, initial, item);
+        return;
+    };
     if j == k {
         return;
     }
-    if j < count {
-        set_edge(mat, j, k);
-        let source = Version {
-            node: j,
-            rank: rank[j * ITEMS + item],
-        };
-        draw_versions(mat, count, rank, k, source, item);
-        return;
-    }
-    draw_versions(mat, count, rank, k, Version { node: j, rank: 0 }, item);
+    set_edge(mat, j, k);
+    let source = Version {
+        node: j,
+        rank: rank[j * ITEMS + item],
+    };
+    draw_versions(mat, count, rank, k, source, item);
 }

@@ -7,7 +7,7 @@ ghost use Rattle.numbers.specs.Numbers.{page_numbers};
 // How many items there are, and the largest one.
 pub const ITEMS: usize = 64;
 
-pub const MAX_ITEM: u32 = ITEMS as u32 - 1;
+pub const MAX_ITEM: u8 = ITEMS as u8 - 1;
 
 // At most this many transactions are open.
 pub const MAX_OPEN: usize = 32;
@@ -22,7 +22,7 @@ pub const MAX_LOG: usize = 65536;
 pub const MAX_COMMITTED: usize = 256;
 
 // The numbers above, side by side.
-#[derive(Clone, Copy)]
+#[derive(Clone, Copy, Debug, PartialEq, Eq)]
 pub struct Page {
     pub items: usize,
     pub largest: u32,
@@ -38,7 +38,7 @@ pub fn page_numbers() -> Page
 {
     Page {
         items: ITEMS,
-        largest: MAX_ITEM,
+        largest: u32::from(MAX_ITEM),
         opens: MAX_OPEN,
         versions: MAX_VERSIONS,
         bytes: MAX_LOG,

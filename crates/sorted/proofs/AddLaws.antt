@@ -1,24 +1,28 @@
--- A stamp in its place: where all before the place are below k, the list with k inserted is the list itself if k stands there, and else the list opened
--- at that place.
+-- A stamp looked for among stamps that rise, by the library's binary search, and a stamp put in its place: where all before the place are below k, the list
+-- with k inserted is the list itself if k stands there, and else the list opened at that place.
 -- Assumes nothing.
-use Prim.Native.Nat.{ℕ, zero, suc, ◌+◌, ◌≤◌, ◌<◌}
+use Prim.Native.Nat.{ℕ, zero, suc, ◌+◌, ◌-◌, ◌≤◌, ◌<◌}
 use native.Mathlib.Nat.{eq-or-lt_of_le}
 use native.Mathlib.Decide.{dec_lt}
 use native.Mathlib.Omega.{arith}
 use mathlib.Core.Path.{◌≡◌, refl, sym, ap, ◌∙◌}
 use mathlib.Core.Logic.{inl, inr}
-use mathlib.Core.List.{List, [], ◌∷◌, ◌++◌}
-use mathlib.Core.Bool.{true, false}
-use lib.ListN.{length, take, drop, get_or, length-append, length-drop}
-use lib.Seq.{length-take-le, get_or-take, take_at, drop_at}
-use lib.Dec.{ltb}
-use borrow.Author.Tests.{eqb-true, eq-eqb, ne_eqb, ltb-true, lt-ltb, le-ltb}
-use Rattle.lists.specs.Member.{◌∈◌, Rising}
+use mathlib.Core.List.{List, [], ◌∷◌, ◌++◌, append_assoc}
+use lib.ListN.{length, take, drop, get_or, set, length-append, length-drop}
+use lib.Seq.{length-take-le, take_at, drop_at}
+use borrow.Author.Tests.{eq-eqb, ne_eqb, lt-ltb, le-ltb}
+use Rattle.std.specs.Prelude.{Result, Ok, Err, MatchResult}
+use Rattle.std.specs.List.{copy_within}
+use Rattle.std.specs.List.Sorted.{IsBinarySearchResult}
+use Rattle.std.specs.Ordering.{nat_cmp}
+use Rattle.std.specs.Result.{result_ok}
+use Rattle.std.proofs.lemmas.List.Sorted.{searched}
+use Rattle.std.proofs.lemmas.Slice.{between_is}
+use Rattle.lists.specs.Member.{Rising}
 use Rattle.lists.specs.Order.{insert}
-use Rattle.lists.proofs.TestLaws.{both_true, false_true}
-use Rattle.lists.proofs.PlaceLaws.{in_at}
-use Rattle.sorted.specs.Sorted.{Stands, is_at, Located, Shifted, Added}
-use Rattle.sorted.proofs.SearchLaws.{rises}
+use Rattle.lists.proofs.PlaceLaws.{in_at, rising_at}
+use Rattle.lists.proofs.ShiftLaws.{opened, opened_set}
+use Rattle.sorted.specs.Sorted.{Located, Added}
 
 -- ---- over a list
 
@@ -43,68 +47,66 @@ module _ (k : ℕ) where
       rw (le-ltb k a (omega arith), ne_eqb k a (λ q. omega arith))
       (ap (λ (t : List ℕ). a ∷ t) (insert_new l r (omega arith) (λ i j. b (suc i) (omega arith)) (λ g. e (omega arith))))
 
--- ---- over the first n of a slice
+-- ---- what the search answers
 
-module _ (a : List ℕ) (at n k : ℕ) (h : at ≤ n) (w : n < length a) where
-  opened_length : length (take at (take n a) ++ k ∷ drop at (take n a)) ≡ n + 1
-  opened_length =
-      let s : length (take n a) ≡ n = length-take-le n a (omega arith) in
-      rw (length-append, length-take-le at (take n a) (omega arith), length-drop) (omega arith)
+-- what the library's binary search answers for k
+abbrev pub IsFound : (l : List ℕ) (k : ℕ) (r : Result ℕ ℕ) → Type 0
+IsFound l k r = IsBinarySearchResult (λ y. nat_cmp y k) l r
 
-  -- the slice opened at a place
-  pub shifted : (b : List ℕ) → b ≡ take at (take n a) ++ k ∷ drop at (take n a) ++ drop (n + 1) a → Shifted a at n k b
-  shifted b e = record {
-    first = rw e (take_at _ _ (n + 1) opened_length);
-    rest = rw e (drop_at (take at (take n a) ++ k ∷ drop at (take n a)) _ (n + 1) opened_length);
-  }
-
-pub at_true : (a : List ℕ) (r n k : ℕ) → is_at a r n k ≡ true → (r < n) × (get_or a r 0 ≡ k)
-at_true a r n k e = let w = both_true (ltb r n) _ e in (ltb-true r n w.0, eqb-true _ _ w.1)
-
-at_false : (a : List ℕ) (r n k : ℕ) → is_at a r n k ≡ false → r < n → ¬ (get_or a r 0 ≡ k)
-at_false a r n k e l q = false_true (sym e ∙ rw (lt-ltb r n l, eq-eqb (get_or a r 0) k q))
-
-module _ (a : List ℕ) (n k r : ℕ) (w : n ≤ length a) (up : Rising 0 (take n a)) (st : Stands a n k r) where
-  size : length (take n a) ≡ n
-  size = length-take-le n a w
-
-  before : (i : ℕ) → i < r → get_or (take n a) i 0 < k
-  before i j = rw (get_or-take n a i 0 (omega (arith, st.within))) (st.before i j)
-
-  -- where k is not at its place, all from there on are above it
-  above : is_at a r n k ≡ false → (i : ℕ) → r ≤ i → i < n → k < get_or a i 0
-  above e i g h = elim (eq-or-lt_of_le g) [
-    | inl q ↦ (let z : get_or a r 0 ≡ get_or a i 0 = ap (λ (m : ℕ). get_or a m 0) q in let y = at_false a r n k e (omega arith) in
-        let x = st.after i g h in omega (arith, y))
-    | inr l ↦ (let x = st.after r (omega arith) (omega arith) in omega (arith, rises a n w up r i l h))
+module _ (l : List ℕ) (k : ℕ) (up : Rising 0 l) where
+  rises : (i j : ℕ) → i ≤ j → j < length l → get_or l i 0 ≤ get_or l j 0
+  rises i j h w = elim (eq-or-lt_of_le h) [
+    | inl q ↦ (let e : get_or l i 0 ≡ get_or l j 0 = ap (λ (m : ℕ). get_or l m 0) q in omega arith)
+    | inr g ↦ omega (arith, rising_at 0 l up i j g w)
   ]
 
-  -- k is none of them
-  missing : is_at a r n k ≡ false → ¬ (k ∈ take n a)
-  missing e m =
-      let p = in_at (take n a) k m in
-      let h : p.0 < n = omega (arith, size, p.1) in
-      let q : get_or a p.0 0 ≡ k = sym (get_or-take n a p.0 0 h) ∙ p.2 in
-      elim (dec_lt p.0 r) [ yes l ↦ omega (arith, st.before p.0 l) | no g ↦ omega (arith, above e p.0 (omega arith) h) ]
+  found : (r : Result ℕ ℕ) → IsFound l k r → MatchResult r (λ i. (i < length l) × (get_or l i 0 ≡ k))
+      (λ i. (i ≤ length l) × ((m : ℕ) → m < i → get_or l m 0 < k) × ((m : ℕ) → i ≤ m → m < length l → k < get_or l m 0))
+  found r h = searched l k r h rises
 
-  pub found_none : is_at a r n k ≡ false → Located a n k n
-  found_none e = record { within = omega arith; here = λ h. absurd (omega arith); none = λ q. missing e }
+  pub located : (r : Result ℕ ℕ) → IsFound l k r → Located l k (result_ok r)
+  located (Ok i) h = let f = found (Ok i) h in record { within = f.0; here = f.1 }
+  located (Err i) h = λ m.
+      let f = found (Err i) h in
+      let p = in_at l k m in
+      elim (dec_lt p.0 i) [ yes g ↦ omega (arith, f.1 p.0 g, p.2) | no g ↦ omega (arith, f.2 p.0 (omega arith) p.1, p.2) ]
 
-  pub found_at : is_at a r n k ≡ true → Located a n k r
-  found_at e = let t = at_true a r n k e in record { within = st.within; here = λ h. t.1; none = λ q. absurd (omega (arith, t.0)) }
+  pub inserted_old : (i : ℕ) → IsFound l k (Ok i) → insert k l ≡ l
+  inserted_old i h =
+      let f = found (Ok i) h in
+      insert_old k l i f.0 (λ m g. let z = rising_at 0 l up m i g f.0 in omega (arith, f.1)) f.1
 
+  pub inserted_new : (i : ℕ) → IsFound l k (Err i) → (i ≤ length l) × (insert k l ≡ take i l ++ k ∷ drop i l)
+  inserted_new i h = let f = found (Err i) h in (f.0, insert_new k l i f.0 f.1 (λ g. f.2 i (omega arith) g))
+
+-- ---- over the first n of a slice
+
+module _ (a : List ℕ) (n k : ℕ) (up : Rising 0 (take n a)) where
   -- nothing is to be added
-  pub add_old : is_at a r n k ≡ true → Added a n k a n
-  add_old e =
-      let t = at_true a r n k e in
-      let q : insert k (take n a) ≡ take n a = insert_old k (take n a) r (omega (arith, size, t.0)) before (get_or-take n a r 0 t.0 ∙ t.1) in
-      record { first = sym q; count = sym (ap length q ∙ size); rest = refl }
+  pub add_old : n ≤ length a → (i : ℕ) → IsFound (take n a) k (Ok i) → Added a n k a n
+  add_old w i h =
+      let q = inserted_old (take n a) k up i h in
+      record { first = sym q; count = sym (ap length q ∙ length-take-le n a w); rest = refl }
+
+  -- what stood at the place and after it, up to n, moved one place on
+  moved : (i : ℕ) → i ≤ n → copy_within a i n (i + 1) ≡ opened a i n
+  moved i h =
+      let e : i + 1 + (n - i) ≡ n + 1 = omega arith in
+      append_assoc (take (i + 1) a) (take (n - i) (drop i a)) (drop (i + 1 + (n - i)) a)
+      ∙ ap (λ (t : List ℕ). take (i + 1) a ++ (t ++ drop (i + 1 + (n - i)) a)) (between_is a i n)
+      ∙ ap (λ (m : ℕ). take (i + 1) a ++ (drop i (take n a) ++ drop m a)) e
 
   -- k is
-  pub add_new : n < length a → is_at a r n k ≡ false → (b : List ℕ) → Shifted a r n k b → Added a n k b (n + 1)
-  add_new room e b s =
-      let l : r ≤ length (take n a) = omega (arith, size, st.within) in
-      let up_to : r < length (take n a) → k < get_or (take n a) r 0 = λ h.
-      (let g : r < n = omega (arith, size) in rw (get_or-take n a r 0 g) (above e r (omega arith) g)) in
-      let q : insert k (take n a) ≡ take r (take n a) ++ k ∷ drop r (take n a) = insert_new k (take n a) r l before up_to in
-      record { first = s.first ∙ sym q; count = sym (ap length q ∙ opened_length a r n k st.within room); rest = s.rest }
+  pub add_new : n < length a → (i : ℕ) → IsFound (take n a) k (Err i) → (b : List ℕ) → b ≡ copy_within a i n (i + 1) → Added a n k (set b i k) (n + 1)
+  add_new w i h b e =
+      let s : length (take n a) ≡ n = length-take-le n a (omega arith) in
+      let f = inserted_new (take n a) k up i h in
+      let g : i ≤ n = omega (arith, f.0) in
+      let front = take i (take n a) ++ k ∷ drop i (take n a) in
+      let l : length front ≡ n + 1 = rw (length-append, length-take-le i (take n a) f.0, length-drop) (omega arith) in
+      let q : set b i k ≡ front ++ drop (n + 1) a = ap (λ (t : List ℕ). set t i k) (e ∙ moved i g) ∙ opened_set a i n k 0 g w in
+      record {
+        first = ap (take (n + 1)) q ∙ take_at front (drop (n + 1) a) (n + 1) l ∙ sym f.1;
+        count = sym (ap length f.1 ∙ l);
+        rest = ap (drop (n + 1)) q ∙ drop_at front (drop (n + 1) a) (n + 1) l;
+      }

@@ -11,6 +11,7 @@ ghost use Rattle.index.specs.Index.{table_of, Table, Room};
 ghost use Rattle.transactions.specs.Transactions.{fault_in, Noted};
 
 use log_format::{Record, Stamp};
+use numbers::MAX_ITEM;
 
 // How far a transaction has come, as the map has it; 0 for one that has not begun.
 pub const RUNNING: u64 = 1;
@@ -18,9 +19,6 @@ pub const RUNNING: u64 = 1;
 pub const COMMITTED: u64 = 2;
 
 pub const ABORTED: u64 = 3;
-
-// The largest item, as a record has it.
-const MAX_ITEM: u8 = numbers::MAX_ITEM as u8;
 
 // ---- what the map says
 

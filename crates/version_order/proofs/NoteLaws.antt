@@ -9,8 +9,8 @@ use mathlib.Core.Logic.{◌≢◌}
 use mathlib.Core.List.{List, [], ◌∷◌, ◌++◌}
 use mathlib.Core.Bool.{Bool, true, false, not, ◌&&◌}
 use lib.Dec.{eqb, ltb}
-use lib.ListN.{length, take, get_or, set, length-set}
-use lib.Seq.{get_or-set_same, get_or-set_other, get_or-take, length-take-le}
+use lib.ListN.{length, get_or, set, length-set}
+use lib.Seq.{get_or-set_same, get_or-set_other}
 use borrow.Author.Tests.{eq-eqb, ne_eqb, eqb-true, eqb-false, ltb-true, ltb-false, not-true}
 use Rattle.lists.specs.Member.{◌∈◌, Rising}
 use Rattle.lists.specs.Order.{Distinct}
@@ -26,7 +26,7 @@ use Rattle.order_rules.specs.Right.{is_version, each_once}
 use Rattle.order_rules.specs.Ranks.{rank_from, rank_in, rank_at}
 use Rattle.order_rules.proofs.ReadingLaws.{length-stamps_at}
 use Rattle.order_rules.proofs.RankLaws.{at_rank, in_rank, no_rank, rank_in_lem, rank_at_lem, rank_other, rank_new}
-use Rattle.sorted.specs.Sorted.{Located}
+use Rattle.sorted.specs.Sorted.{StandsAt}
 use Rattle.version_order.specs.Judging.{Clear, cell_of, Noted, FieldRanked}
 
 -- a number over 0 is one that is not 0
@@ -46,18 +46,10 @@ ranked k l n = in_any k l (rank_in_lem k l (omega (arith, n)))
 
 -- ---- one stamp
 
--- a stamp found among the first nodes has the rank after its place; one that is not has none
-pub located_rank : {a : List ℕ} {count k p : ℕ} → count ≤ length a → Rising 0 (take count a) → Located a count k p → p ≢ count
-    → rank_in k (take count a) ≡ suc p
-located_rank {a} {count} {k} {p} w r f n =
-    let h = f.within in
-    let l : p < count = omega (arith, n) in
-    let z = length-take-le count a w in
-    let e : get_or (take count a) p 0 ≡ k = get_or-take count a p 0 l ∙ f.here l in
-    ap (λ (i : ℕ). rank_in i (take count a)) (sym e) ∙ at_rank 1 (take count a) (rising_distinct 0 (take count a) r) p (omega arith) ∙ omega arith
-
-pub located_none : {a : List ℕ} {count k p : ℕ} → Located a count k p → p ≡ count → rank_in k (take count a) ≡ 0
-located_none {a} {count} {k} f e = no_rank k 1 (take count a) (f.none e)
+-- a stamp found among the nodes has the rank after its place
+pub located_rank : {nodes : List ℕ} {k p : ℕ} → Rising 0 nodes → StandsAt nodes k p → rank_in k nodes ≡ suc p
+located_rank {nodes} {k} {p} r f =
+    ap (λ (i : ℕ). rank_in i nodes) (sym f.here) ∙ at_rank 1 nodes (rising_distinct 0 nodes r) p f.within ∙ omega arith
 
 a_node : (nodes : List ℕ) (k p : ℕ) → rank_in k nodes ≡ suc p → any (eqb k) nodes ≡ true
 a_node nodes k p is = ranked k nodes (λ z. omega arith)
@@ -67,8 +59,8 @@ cell_is nodes x k p is = let z : rank_in k nodes - 1 ≡ p = omega arith in rw z
 
 module _ {wr : ℕ → ℕ → ℕ} {nodes : List ℕ} {x k place : ℕ} {rank : List ℕ} where
   -- no node
-  pub not_a_node : rank_in k nodes ≡ 0 → Noted wr nodes x k place rank false rank
-  not_a_node z = record { answer = rw (unranked k nodes z); cells = refl }
+  pub not_a_node : ¬ (k ∈ nodes) → Noted wr nodes x k place rank false rank
+  not_a_node n = record { answer = rw (unranked k nodes (no_rank k 1 nodes n)); cells = refl }
 
   module _ (p : ℕ) (is : rank_in k nodes ≡ suc p) where
     -- a node that did not write the item

@@ -14,13 +14,11 @@ ghost use Rattle.version_order.specs.Judging.{Ready, Clear, gap_at, ended_by, No
 
 use log_format::Stamp;
 use log_reader::{be32, body_len};
+use numbers::MAX_ITEM;
 use order_rules::Found;
 
 // The tag of a version order's fields.
 const TAG: u8 = 32;
-
-// The largest item, as a field has it.
-const MAX_ITEM: u8 = numbers::MAX_ITEM as u8;
 
 // A field of a version order: its item, its place, and how many stamps it has.
 #[derive(Clone, Copy)]
@@ -85,10 +83,9 @@ fn note(
     ensures { Noted (written_in (table_of map.now)) (take count nodes.now) item stamp place rank.old result
         rank.new }
 {
-    let p = sorted::find(nodes, count, stamp);
-    if p == count {
+    let Some(p) = sorted::find(&nodes[..count], stamp) else {
         return false;
-    }
+    };
     if wrote(map, stamp, item) {
         let cell = p * numbers::ITEMS + item as usize;
         if rank[cell] == 0 {
