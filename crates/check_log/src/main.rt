@@ -2,7 +2,7 @@
 // stamps, each after a space, or `refused`, code and number. A file that is not named, not opened or not read counts as empty.
 #![tactic(auto)]
 
-ghost use Rattle.std.specs.Prelude.{◌≡◌, ◌≤◌, length, take};
+ghost use Rattle.std.specs.Prelude.{◌≤◌, length};
 
 use std::io::Read;
 use std::rt::Files;
@@ -23,20 +23,15 @@ fn read_on<R: Read>(input: &mut R, buf: &mut [u8]) -> usize
     done
 }
 
-// The bytes of a file that fit, and how many: 0 where an argument names none that can be read.
-fn read_file<R: Files>(rt: &R, path: &str, buf: &mut [u8]) -> usize
-    ensures { (result ≤ length buf.new) × (result ≡ length (take result buf.new)) }
-{
-    let opened = fs::open(rt, path);
-    match opened {
-        Ok(mut file) => read_on(&mut file, buf),
-        Err(_) => 0,
+// The bytes of a file that fit the buffer; none where no file is named, or it cannot be opened.
+fn read_file<'a, R: Files>(rt: &R, path: Option<&String>, buf: &'a mut [u8]) -> &'a [u8] {
+    match path.map(|path| fs::open(rt, path)) {
+        Some(Ok(mut file)) => {
+            let n = read_on(&mut file, buf);
+            &buf[..n]
+        }
+        _ => &[],
     }
-}
-
-// The argument at a place, or an empty name, which no file has.
-fn argument(args: &Vec<String>, i: usize) -> &str {
-    if i < args.len() { args[i].as_str() } else { "" }
 }
 
 // One byte more than a log may have, so that a longer file is seen to be longer; and one more than any right version order has: 64
@@ -46,8 +41,8 @@ fn main(rt: HostRuntime) -> io::Result<()> {
     let mut order = [0u8; 65793];
     let mut line = [0u8; 2825];
     let args: Vec<String> = env::args(&rt)?.collect(rt.alloc())?;
-    let l = read_file(&rt, argument(&args, 1), &mut log);
-    let o = read_file(&rt, argument(&args, 2), &mut order);
-    let n = verdict_line::write_verdict(&log[..l], &order[..o], &mut line);
+    let log = read_file(&rt, args.get(1), &mut log);
+    let order = read_file(&rt, args.get(2), &mut order);
+    let n = verdict_line::write_verdict(log, order, &mut line);
     rt.write_all(&line[..n])
 }

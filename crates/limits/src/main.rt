@@ -8,69 +8,92 @@ use scheduler::Called;
 use scheduler_rules::Op;
 use std::io;
 
-fn say(rt: &impl Print, word: &str) -> io::Result<()> {
-    print!(rt; "{word}")
+// ---- operations
+
+fn begin(stamp: u32) -> Op {
+    Op {
+        kind: 1,
+        stamp: Stamp(stamp),
+        item: 0,
+        value: 0,
+    }
 }
 
-fn number(rt: &impl Print, n: u64) -> io::Result<()> {
-    print!(rt; " {n}")
+fn read(stamp: u32, item: u32) -> Op {
+    Op {
+        kind: 2,
+        item,
+        ..begin(stamp)
+    }
 }
 
-// One operation on the state that the call before gave.
-fn next(o: Called, kind: u32, stamp: u32, item: u32, value: u32, log: &mut [u8]) -> Called {
-    let k = Stamp(stamp);
-    let op = Op {
-        kind,
-        stamp: k,
+fn write(stamp: u32, item: u32, value: u32) -> Op {
+    Op {
+        kind: 3,
+        stamp: Stamp(stamp),
         item,
         value,
-    };
-    let s = o.state;
-    scheduler::call(s, op, log)
+    }
+}
+
+fn commit(stamp: u32) -> Op {
+    Op {
+        kind: 4,
+        ..begin(stamp)
+    }
+}
+
+fn abort(stamp: u32) -> Op {
+    Op {
+        kind: 5,
+        ..begin(stamp)
+    }
+}
+
+// ---- calls
+
+// One operation on the state that the call before gave.
+fn next(o: Called, op: Op, log: &mut [u8]) -> Called {
+    scheduler::call(o.state, op, log)
 }
 
 // The reply and the bytes used, under a name.
 fn show(rt: &impl Print, name: &str, o: Called) -> io::Result<()> {
-    say(rt, name)?;
-    number(rt, o.reply.code as u64)?;
-    number(rt, o.reply.stamp.0 as u64)?;
-    number(rt, o.reply.value as u64)?;
-    let s = o.state;
-    say(rt, " used")?;
-    number(rt, s.core.used.0 as u64)?;
-    say(rt, "\n")
+    let Called { state, reply } = o;
+    println!(rt;
+        "{name} {} {} {} used {}",
+        reply.code, reply.stamp.0, reply.value, state.core.used.0,
+    )
 }
 
 // Begins of the stamps from 1 to n.
 fn begins(first: Called, n: u32, log: &mut [u8]) -> Called {
     let mut o = first;
-    let mut k: u32 = 0;
-    while k < n {
-        k += 1;
-        o = next(o, 1, k, 0, 0, log);
+    for k in 1..=n {
+        o = next(o, begin(k), log);
     }
     o
 }
+
+// ---- the cases
 
 fn open_limit(rt: &impl Print) -> io::Result<()> {
     let mut log = [0u8; 4096];
     let o = begins(scheduler::fresh(&mut log), 32, &mut log);
     show(rt, "begin 32:", o)?;
-    let p = next(o, 1, 33, 0, 0, &mut log);
+    let p = next(o, begin(33), &mut log);
     show(rt, "begin 33:", p)?;
-    let q = next(p, 4, 7, 0, 0, &mut log);
+    let q = next(p, commit(7), &mut log);
     show(rt, "commit 7:", q)?;
-    let r = next(q, 1, 33, 0, 0, &mut log);
+    let r = next(q, begin(33), &mut log);
     show(rt, "begin 33:", r)
 }
 
 // A write of each item by a stamp.
 fn writes(first: Called, k: u32, log: &mut [u8]) -> Called {
     let mut o = first;
-    let mut x: u32 = 0;
-    while x < 64 {
-        o = next(o, 3, k, x, x, log);
-        x += 1;
+    for x in 0..64 {
+        o = next(o, write(k, x, x), log);
     }
     o
 }
@@ -78,9 +101,7 @@ fn writes(first: Called, k: u32, log: &mut [u8]) -> Called {
 // Writes of each item by the stamps from 1 to 16: 1,024 versions.
 fn all_writes(first: Called, log: &mut [u8]) -> Called {
     let mut o = first;
-    let mut k: u32 = 0;
-    while k < 16 {
-        k += 1;
+    for k in 1..=16 {
         o = writes(o, k, log);
     }
     o
@@ -90,47 +111,62 @@ fn version_limit(rt: &impl Print) -> io::Result<()> {
     let mut log = [0u8; 65536];
     let o = all_writes(begins(scheduler::fresh(&mut log), 17, &mut log), &mut log);
     show(rt, "version 1024:", o)?;
-    let p = next(o, 3, 17, 0, 5, &mut log);
+    let p = next(o, write(17, 0, 5), &mut log);
     show(rt, "version 1025:", p)?;
-    let q = next(p, 3, 16, 0, 5, &mut log);
+    let q = next(p, write(16, 0, 5), &mut log);
     show(rt, "written already:", q)?;
-    let r = next(q, 5, 16, 0, 0, &mut log);
+    let r = next(q, abort(16), &mut log);
     show(rt, "abort 16:", r)?;
-    let s = next(r, 3, 17, 0, 5, &mut log);
+    let s = next(r, write(17, 0, 5), &mut log);
     show(rt, "room again:", s)
 }
 
 fn full_log(rt: &impl Print) -> io::Result<()> {
     let mut log = [0u8; 34];
     let o = begins(scheduler::fresh(&mut log), 2, &mut log);
-    let p = next(o, 3, 1, 0, 5, &mut log);
+    let p = next(o, write(1, 0, 5), &mut log);
     show(rt, "write:", p)?;
-    show(rt, "begin, 4 bytes left:", next(p, 1, 3, 0, 0, &mut log))?;
-    show(rt, "read, 4 bytes left:", next(p, 2, 2, 1, 0, &mut log))?;
-    show(rt, "write, 4 bytes left:", next(p, 3, 2, 1, 7, &mut log))?;
-    show(rt, "commit, 4 bytes left:", next(p, 4, 1, 0, 0, &mut log))?;
-    show(rt, "abort, 4 bytes left:", next(p, 5, 1, 0, 0, &mut log))
+    show(rt, "begin, 4 bytes left:", next(p, begin(3), &mut log))?;
+    show(rt, "read, 4 bytes left:", next(p, read(2, 1), &mut log))?;
+    show(
+        rt,
+        "write, 4 bytes left:",
+        next(p, write(2, 1, 7), &mut log),
+    )?;
+    show(rt, "commit, 4 bytes left:", next(p, commit(1), &mut log))?;
+    show(rt, "abort, 4 bytes left:", next(p, abort(1), &mut log))
 }
 
 // 2 has read the version beneath a write by 1: it is late.
 fn late(rt: &impl Print, log: &mut [u8]) -> io::Result<()> {
     let o = begins(scheduler::fresh(log), 2, log);
-    let p = next(o, 2, 2, 5, 0, log);
-    let q = next(p, 3, 1, 5, 9, log);
+    let p = next(o, read(2, 5), log);
+    let q = next(p, write(1, 5, 9), log);
     show(rt, "late:", q)?;
-    show(rt, "commit 1:", next(q, 4, 1, 0, 0, log))
+    show(rt, "commit 1:", next(q, commit(1), log))
 }
 
 fn items(rt: &impl Print) -> io::Result<()> {
     let mut log = [0u8; 4096];
     let o = begins(scheduler::fresh(&mut log), 1, &mut log);
-    show(rt, "item 63:", next(o, 2, 1, 63, 0, &mut log))?;
-    show(rt, "item 64:", next(o, 2, 1, 64, 0, &mut log))?;
-    show(rt, "kind 6:", next(o, 6, 1, 0, 0, &mut log))?;
+    show(rt, "item 63:", next(o, read(1, 63), &mut log))?;
+    show(rt, "item 64:", next(o, read(1, 64), &mut log))?;
+    show(
+        rt,
+        "kind 6:",
+        next(
+            o,
+            Op {
+                kind: 6,
+                ..begin(1)
+            },
+            &mut log,
+        ),
+    )?;
     show(
         rt,
         "begin 4294967295:",
-        next(o, 1, 4294967295, 0, 0, &mut log),
+        next(o, begin(4294967295), &mut log),
     )
 }
 
@@ -141,12 +177,12 @@ fn short_buffer(rt: &impl Print) -> io::Result<()> {
     let mut three = [7u8; 3];
     let p = scheduler::fresh(&mut three);
     show(rt, "fresh in 3:", p)?;
-    show(rt, "then begin:", next(p, 1, 1, 0, 0, &mut three))?;
+    show(rt, "then begin:", next(p, begin(1), &mut three))?;
     let mut four = [7u8; 4];
     let q = scheduler::fresh(&mut four);
     show(rt, "fresh in 4:", q)?;
-    show(rt, "then begin:", next(q, 1, 1, 0, 0, &mut four))?;
-    show(rt, "over 3 bytes:", next(q, 1, 1, 0, 0, &mut three))
+    show(rt, "then begin:", next(q, begin(1), &mut four))?;
+    show(rt, "over 3 bytes:", next(q, begin(1), &mut three))
 }
 
 fn main(rt: HostRuntime) -> io::Result<()> {

@@ -7,64 +7,21 @@ use checker_rules::Ordered;
 use std::io;
 use std::io::{BufReader, BufWriter, Read, Write};
 
-fn say_answer<W: Write>(to: &mut W, a: Ordered) -> io::Result<()> {
-    match a {
-        Ordered::Bytes(n) => {
-            told::say(to, 0, b' ')?;
-            told::say(to, n as u64, b' ')
-        }
-        Ordered::Refused(code, place) => {
-            told::say(to, code as u64, b' ')?;
-            told::say(to, place.0 as u64, b' ')
-        }
-    }
-}
-
 fn put<W: Write>(to: &mut W, log: &[u8], out: &mut [u8]) -> io::Result<()> {
     told::fill(out);
-    let a = checker::write_order(log, out);
-    say_answer(to, a)?;
-    told::say(to, told::hash_of_bytes(1, out), b'\n')?;
+    let (code, number) = match checker::write_order(log, out) {
+        Ordered::Bytes(n) => (0, n),
+        Ordered::Refused(code, place) => (code, place.0),
+    };
+    writeln!(to, "{code} {number} {}", told::hash_of(1, out))?;
     to.flush()
 }
 
-// The next number of the input, or its end.
-#[derive(Clone, Copy)]
-pub enum Next {
-    Is(usize),
-    End,
-}
-
-fn next_number<R: Read>(input: &mut R) -> io::Result<Next> {
-    let mut b = [0u8; 4];
-    if told::read_full(input, &mut b)? < 4 {
-        return Ok(Next::End);
-    }
-    Ok(Next::Is(log_reader::be32(&b, 0) as usize))
-}
-
-// Reads the log, of n bytes, to the buffer's front.
-fn read_log<R: Read>(input: &mut R, log: &mut [u8], n: usize) -> io::Result<()> {
-    if n <= log.len() {
-        told::read_full(input, &mut log[..n])?;
-    }
-    Ok(())
-}
-
-// The case of the log in the first n bytes, and a buffer of this length.
-fn put_part<W: Write>(
-    to: &mut W,
-    log: &[u8],
-    n: usize,
-    out: &mut [u8],
-    room: usize,
-) -> io::Result<()> {
-    if n <= log.len() {
-        if room <= out.len() {
-            put(to, &log[..n], &mut out[..room])?;
-        }
-    }
-    Ok(())
+// The next number of the input, or none at its end.
+fn next_number<R: Read>(input: &mut R) -> io::Result<Option<usize>> {
+    let mut bytes = [0u8; 4];
+    let read = told::read_full(input, &mut bytes)?;
+    Ok((read == bytes.len()).then_some(u32::from_be_bytes(bytes) as usize))
 }
 
 // A proved loop has to end, and nothing says that the input does, so its turns are as many as no run uses up.
@@ -74,16 +31,16 @@ fn main(rt: HostRuntime) -> io::Result<()> {
     let mut log = [0u8; 65600];
     let mut out = [0u8; 65600];
     for _ in 0..u64::MAX {
-        let l = next_number(&mut input)?;
-        let Next::Is(n) = l else {
+        let (Some(n), Some(room)) = (next_number(&mut input)?, next_number(&mut input)?) else {
             break;
         };
-        let r = next_number(&mut input)?;
-        let Next::Is(room) = r else {
-            break;
+        let Some(log) = log.get_mut(..n) else {
+            continue;
         };
-        read_log(&mut input, &mut log, n)?;
-        put_part(&mut to, &log, n, &mut out, room)?;
+        told::read_full(&mut input, log)?;
+        if let Some(out) = out.get_mut(..room) {
+            put(&mut to, log, out)?;
+        }
     }
     to.flush()
 }

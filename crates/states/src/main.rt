@@ -6,6 +6,8 @@
 // the call, the hash of its tables, and the hash of the buffer.
 #![tactic(auto)]
 
+ghost use Rattle.std.specs.Prelude.{◌+◌, ◌≤◌};
+
 use decision::Core;
 use log_format::{Place, Stamp};
 use open_table::OpenTable;
@@ -15,181 +17,100 @@ use std::io;
 use std::io::{BufReader, BufWriter, Read, Write};
 use version_columns::Versions;
 
-// The state's numbers that stand in no table.
-#[derive(Clone, Copy)]
-pub struct Counts {
-    pub last: u32,
-    pub used: usize,
-    pub live: usize,
-    pub held: usize,
-}
-
 // ---- reading
 
-// Sets one number of the tables.
-fn set(tables: &mut [u32], place: usize, n: u32) {
-    if place < tables.len() {
-        tables[place] = n;
+// The numbers at the front of bytes, each of four, high byte first; 0 where the bytes have no more.
+fn numbers<const N: usize>(bytes: &[u8]) -> [u32; N] {
+    let mut numbers = [0u32; N];
+    for (n, &b) in numbers.iter_mut().zip(bytes.as_chunks::<4>().0) {
+        *n = u32::from_be_bytes(b);
     }
+    numbers
 }
 
-// The tables that n settings make.
-fn read_tables<R: Read>(input: &mut R, n: u32) -> io::Result<[u32; 4192]> {
+// Reads so many settings, and gives the tables that they make.
+fn read_tables<R: Read>(input: &mut R, settings: u32) -> io::Result<[u32; 4192]> {
     let mut tables = [0u32; 4192];
-    let mut b = [0u8; 8];
-    let mut k: u32 = 0;
-    while k < n {
-        told::read_full(input, &mut b)?;
-        set(
-            &mut tables,
-            log_reader::be32(&b, 0) as usize,
-            log_reader::be32(&b, 4),
-        );
-        k += 1;
+    let mut setting = [0u8; 8];
+    for _ in 0..settings {
+        told::read_full(input, &mut setting)?;
+        let [place, n]: [u32; 2] = numbers(&setting);
+        if let Some(x) = tables.get_mut(place as usize) {
+            *x = n;
+        }
     }
     Ok(tables)
 }
 
-// The i-th number of the tables from a place on.
-fn at(tables: &[u32; 4192], from: usize, i: usize) -> u32 {
-    if from < 4192 {
-        if i < 4192 - from {
-            return tables[from + i];
-        }
-    }
-    0
-}
-
-// The numbers of a column, which stand in the tables from a place on.
-fn copy(tables: &[u32; 4192], from: usize, column: &mut [u32]) {
-    let mut i: usize = 0;
-    while i < column.len() {
-        column[i] = at(tables, from, i);
-        i += 1;
-    }
-}
-
-fn versions(tables: &[u32; 4192], count: usize) -> Versions {
-    let mut items = [0u32; 1024];
-    let mut stamps = [0u32; 1024];
-    let mut values = [0u32; 1024];
-    let mut marks = [0u32; 1024];
-    copy(tables, 96, &mut items);
-    copy(tables, 1120, &mut stamps);
-    copy(tables, 2144, &mut values);
-    copy(tables, 3168, &mut marks);
-    Versions {
-        items,
-        stamps,
-        values,
-        marks,
-        count,
-    }
+// The column that stands in the tables from a place on.
+fn column<const N: usize>(tables: &[u32; 4192], from: usize) -> [u32; N]
+    requires { from + N ≤ 4192 }
+{
+    let mut column = [0u32; N];
+    column.copy_from_slice(&tables[from..from + N]);
+    column
 }
 
 fn open_table(tables: &[u32; 4192], count: usize) -> OpenTable {
     let mut stamps = [Stamp(0); 32];
-    let mut i: usize = 0;
-    while i < 32 {
-        stamps[i] = Stamp(at(tables, 0, i));
-        i += 1;
+    for (stamp, &n) in stamps.iter_mut().zip(tables) {
+        *stamp = Stamp(n);
     }
     OpenTable { stamps, count }
 }
 
-fn state_of(c: Counts, tables: &[u32; 4192]) -> State {
-    let last = Stamp(c.last);
-    let used = Place(c.used);
-    let live = open_table(tables, c.live);
-    let core = Core { last, used, live };
-    let mut marks = [0u32; 64];
-    copy(tables, 32, &mut marks);
-    let versions = versions(tables, c.held);
-    State {
-        core,
-        marks,
-        versions,
+fn versions(tables: &[u32; 4192], count: usize) -> Versions {
+    Versions {
+        items: column(tables, 96),
+        stamps: column(tables, 1120),
+        values: column(tables, 2144),
+        marks: column(tables, 3168),
+        count,
     }
 }
 
 // ---- telling
 
-fn hash_of_open(h: u64, t: OpenTable) -> u64 {
-    let mut r = h;
-    let mut i: usize = 0;
-    while i < 32 {
-        r = told::hashed(r, t.stamps[i].0);
-        i += 1;
-    }
-    r
-}
-
 // The hash of the tables, place after place.
-fn hash_of_state(s: State) -> u64 {
-    let live = s.core.live;
-    let h = hash_of_open(1, live);
-    let i = told::hash_of_numbers(h, &s.marks);
-    let j = told::hash_of_numbers(i, &s.versions.items);
-    let k = told::hash_of_numbers(j, &s.versions.stamps);
-    let l = told::hash_of_numbers(k, &s.versions.values);
-    told::hash_of_numbers(l, &s.versions.marks)
+fn hash_of_state(state: &State) -> u64 {
+    let open = state
+        .core
+        .live
+        .stamps
+        .iter()
+        .fold(1, |h, k| told::hashed(h, k.0));
+    let versions = &state.versions;
+    let columns: [&[u32]; 5] = [
+        &state.marks,
+        &versions.items,
+        &versions.stamps,
+        &versions.values,
+        &versions.marks,
+    ];
+    columns
+        .iter()
+        .fold(open, |h, column| told::hash_of(h, column))
 }
 
 // What a call gave, and the buffer that it left.
-fn tell<W: Write>(out: &mut W, o: Called, log: &[u8]) -> io::Result<()> {
-    let r = o.reply;
-    told::say(out, r.code as u64, b' ')?;
-    told::say(out, r.stamp.0 as u64, b' ')?;
-    told::say(out, r.value as u64, b' ')?;
-    let s = o.state;
-    told::say(out, s.core.last.0 as u64, b' ')?;
-    told::say(out, s.core.used.0 as u64, b' ')?;
-    told::say(out, s.core.live.count as u64, b' ')?;
-    told::say(out, s.versions.count as u64, b' ')?;
-    told::say(out, hash_of_state(s), b' ')?;
-    told::say(out, told::hash_of_bytes(1, log), b'\n')
+fn tell<W: Write>(out: &mut W, called: Called, log: &[u8]) -> io::Result<()> {
+    let Called { state, reply } = called;
+    writeln!(
+        out,
+        "{} {} {} {} {} {} {} {} {}",
+        reply.code,
+        reply.stamp.0,
+        reply.value,
+        state.core.last.0,
+        state.core.used.0,
+        state.core.live.count,
+        state.versions.count,
+        hash_of_state(&state),
+        told::hash_of(1, log),
+    )
 }
 
 // ---- the cases
-
-fn put<W: Write>(out: &mut W, s: State, op: Op, log: &mut [u8]) -> io::Result<()> {
-    told::fill(log);
-    let o = scheduler::call(s, op, log);
-    tell(out, o, log)
-}
-
-// The call on a buffer of this length.
-fn put_part<W: Write>(
-    out: &mut W,
-    s: State,
-    op: Op,
-    log: &mut [u8],
-    room: usize,
-) -> io::Result<()> {
-    if room <= log.len() {
-        put(out, s, op, &mut log[..room])?;
-    }
-    Ok(())
-}
-
-fn op_of(front: &[u8; 40]) -> Op {
-    let stamp = Stamp(log_reader::be32(front, 4));
-    Op {
-        kind: log_reader::be32(front, 0),
-        stamp,
-        item: log_reader::be32(front, 8),
-        value: log_reader::be32(front, 12),
-    }
-}
-
-fn counts_of(front: &[u8; 40]) -> Counts {
-    Counts {
-        last: log_reader::be32(front, 24),
-        used: log_reader::be32(front, 28) as usize,
-        live: log_reader::be32(front, 32) as usize,
-        held: log_reader::be32(front, 36) as usize,
-    }
-}
 
 // The case that ten numbers begin; its settings are still to be read. Its answer is written before the next case is read.
 fn put_case<R: Read, W: Write>(
@@ -198,10 +119,38 @@ fn put_case<R: Read, W: Write>(
     front: &[u8; 40],
     log: &mut [u8],
 ) -> io::Result<()> {
-    let room = log_reader::be32(front, 16) as usize;
-    let tables = read_tables(input, log_reader::be32(front, 20))?;
-    let s = state_of(counts_of(front), &tables);
-    put_part(out, s, op_of(front), log, room)?;
+    let [
+        kind,
+        stamp,
+        item,
+        value,
+        room,
+        settings,
+        last,
+        used,
+        live,
+        held,
+    ]: [u32; 10] = numbers(front);
+    let tables = read_tables(input, settings)?;
+    let state = State {
+        core: Core {
+            last: Stamp(last),
+            used: Place(used as usize),
+            live: open_table(&tables, live as usize),
+        },
+        marks: column(&tables, 32),
+        versions: versions(&tables, held as usize),
+    };
+    let op = Op {
+        kind,
+        stamp: Stamp(stamp),
+        item,
+        value,
+    };
+    if let Some(log) = log.get_mut(..room as usize) {
+        told::fill(log);
+        tell(out, scheduler::call(state, op, log), log)?;
+    }
     out.flush()
 }
 
@@ -212,7 +161,7 @@ fn main(rt: HostRuntime) -> io::Result<()> {
     let mut log = [0u8; 65600];
     let mut front = [0u8; 40];
     for _ in 0..u64::MAX {
-        if told::read_full(&mut input, &mut front)? < 40 {
+        if told::read_full(&mut input, &mut front)? < front.len() {
             break;
         }
         put_case(&mut input, &mut out, &front, &mut log)?;
