@@ -2,7 +2,7 @@
 -- Assumes nothing.
 use Prim.Native.Nat.{ℕ, suc, ◌+◌, ◌-◌, ◌*◌, ◌≤◌, ◌<◌}
 use native.Mathlib.Numerals.{add-one}
-use mathlib.Core.Path.{◌≡◌, refl, sym}
+use mathlib.Core.Path.{◌≡◌, refl, sym, ◌∙◌}
 use mathlib.Core.Bool.{Bool, true, false, cond, ◌&&◌}
 use mathlib.Core.List.{List, [], ◌∷◌}
 use lib.ListN.{length, drop, get_or, drop_of_length-le}
@@ -19,8 +19,8 @@ use Rattle.line_format.proofs.ReadingLaws.{more_next, more_over, more_stop, more
 
 -- ---- a word
 
--- the library's test, whether a line begins with a word, is ours
-pub starts_is : (s w : List ℕ) → starts_with eqb s w ≡ starts w s
+-- the library's test whether a line begins with a word is ours
+starts_is : (s w : List ℕ) → starts_with eqb s w ≡ starts w s
 unfolding starts
 starts_is s [] = refl
 starts_is [] (a ∷ w) = refl
@@ -30,11 +30,15 @@ starts_is (b ∷ s) (a ∷ w) = go (eqb a b) refl (starts_is s w)
     go true e h = rw (eq-eqb b a (sym (eqb-true _ _ e))) h
     go false e h = rw (ne_eqb b a (λ q. eqb-false _ _ e (sym q))) refl
 
+-- so what it answered, ours answers
+pub word_found : {r x : Bool} (s w : List ℕ) → r ≡ starts_with eqb s w → r ≡ x → starts w s ≡ x
+word_found s w e f = sym (starts_is s w) ∙ sym e ∙ f
+
 -- ---- a decimal
 
--- the library's digits are ours
-pub digit_is : (b : ℕ) → is_ascii_digit b ≡ is_digit b
-digit_is b = go (leb 48 b) (leb b 57)
+-- what the library's test of a digit answered, ours answers
+pub digit_found : {r x : Bool} (b : ℕ) → r ≡ is_ascii_digit b → r ≡ x → is_digit b ≡ x
+digit_found b e f = sym (go (leb 48 b) (leb b 57)) ∙ sym e ∙ f
   where
     go : (x y : Bool) → (x && y) ≡ cond x y false
     go true y = refl
@@ -66,17 +70,3 @@ module _ (s : List ℕ) (at : ℕ) (h : at < length s) where
 
 pub decimal_end : (s : List ℕ) (at : ℕ) → length s ≤ at → decimal_at s at ≡ None
 decimal_end s at h = rw (drop_of_length-le s h) (first_end at)
-
--- ---- what a line makes of its numbers
-
-pub number_is : {d : Option (ℕ × ℕ)} {n p : ℕ} (f : ℕ → ℕ → Option Op) → d ≡ Some (n, p) → with_number d f ≡ f n p
-number_is f e = rw e
-
-pub number_missing : {d : Option (ℕ × ℕ)} (f : ℕ → ℕ → Option Op) → d ≡ None → with_number d f ≡ None
-number_missing f e = rw e
-
-pub ended_there : (s : List ℕ) (at : ℕ) (op : Op) → at ≡ length s → ended s at op ≡ Some op
-ended_there s at op e = simp (eq-eqb _ _ e)
-
-pub ended_not : (s : List ℕ) (at : ℕ) (op : Op) → ¬ (at ≡ length s) → ended s at op ≡ None
-ended_not s at op n = simp (ne_eqb _ _ n)
