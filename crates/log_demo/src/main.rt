@@ -28,13 +28,13 @@ fn used_after(
     used: Place,
     added: Result<Place, AppendError>,
 ) -> io::Result<Place> {
-    let code = match added {
-        Ok(next) => return Ok(next),
-        Err(AppendError::BadCause) => 2,
-        Err(AppendError::NoRoom) => 10,
-    };
-    println!(rt; "no {code}")?;
-    Ok(used)
+    match added {
+        Ok(next) => Ok(next),
+        Err(error) => {
+            println!(rt; "no {}", error.code())?;
+            Ok(used)
+        }
+    }
 }
 
 fn add(rt: &impl Print, log: &mut [u8], used: Place, record: Record) -> io::Result<Place> {
@@ -69,12 +69,20 @@ fn fill(rt: &impl Print, log: &mut [u8], used: Place) -> io::Result<Place> {
     Ok(at)
 }
 
+// A refusal's code and place, 0 where it has none.
+fn print_refused(rt: &impl Print, error: FormError) -> io::Result<()> {
+    let place = match error {
+        FormError::NoLog => Place(0),
+        FormError::BadField(place) => place,
+    };
+    println!(rt; "refused {} {}", error.code(), place.0)
+}
+
 // The form of a log, and its records with their places.
 fn show(rt: &impl Print, log: &[u8]) -> io::Result<()> {
     let count = match log_reader::read_log(log) {
         Ok(count) => count,
-        Err(FormError::NoLog) => return println!(rt; "refused 21 0"),
-        Err(FormError::BadField(place)) => return println!(rt; "refused 22 {}", place.0),
+        Err(error) => return print_refused(rt, error),
     };
     println!(rt; "records {count}")?;
     let mut at = Place::FIRST;
