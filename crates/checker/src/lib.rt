@@ -10,7 +10,7 @@ ghost use Rattle.history.specs.Reads.{ReadLog};
 ghost use Rattle.checker.specs.Reads.{GraphIs};
 
 use checker_rules::{Checked, Ordered};
-use edges::Graph;
+use edges::{Graph, Ranks};
 use graph::Verdict;
 use history::Judged;
 use log_format::Place;
@@ -57,7 +57,8 @@ fn check_graph(log: &[u8], nodes: &[u32], count: usize, rank: &[u16], answer: &m
     ensures { GraphIs log.now nodes.now rank.now count answer.old result answer.new }
 {
     let mut mat = [0u8; CELLS];
-    drawing::draw_log(log, nodes, count, rank, &mut mat);
+    let ranks = Ranks { ranks: rank, count };
+    drawing::draw_log(log, nodes, ranks, &mut mat);
     let mut deg = [0u16; numbers::MAX_COMMITTED];
     let mut path = [0u16; numbers::MAX_COMMITTED];
     let graph = Graph {

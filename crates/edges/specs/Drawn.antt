@@ -1,14 +1,7 @@
 -- The edges that one read draws, over nodes and ranks: the page's rule as a test on the numbers that a program keeps.
 -- Assumes nothing.
-use Rattle.std.specs.Prelude.{ℕ, ◌+◌, ◌*◌, ◌≤◌, ◌<◌, ◌≡◌, List, Bool, cond, not, ◌&&◌, ◌||◌, eqb, ltb, length, get_or}
-use Rattle.edges.specs.Matrix.{most_nodes, matrix_size, edge_at}
-
--- the tables have room: a matrix for 256 nodes, no more nodes than that, 64 ranks for each; x is one of the 64 items
-pub record Room (m rank : List ℕ) (count x : ℕ) : Type 0 where
-  pub matrix : matrix_size ≤ length m
-  pub few : count ≤ most_nodes
-  pub ranks : count * 64 ≤ length rank
-  pub item : x < 64
+use Rattle.std.specs.Prelude.{ℕ, ◌+◌, ◌*◌, ◌<◌, ◌≡◌, List, Bool, cond, not, ◌&&◌, ◌||◌, eqb, ltb, length, get_or}
+use Rattle.edges.specs.Matrix.{most_nodes, edge_at}
 
 -- the rank of node i's version of x: one more than its place among x's versions, 0 where it has none. Version 0 is of no node, so it stands for a
 -- number past the nodes; its rank is 0, as it comes first

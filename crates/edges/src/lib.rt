@@ -1,11 +1,11 @@
 // The edges between committed transactions as a matrix of bytes that the caller lends: one read of the log draws its edges. A node is a
-// committed transaction's number, counted by rising stamps. `rank` has 64 numbers a node, one an item: one more than the place of the
-// node's version among the item's versions, oldest first, or 0 where it has none.
+// committed transaction's number, counted by rising stamps.
 #![tactic(auto)]
 
-ghost use Rattle.std.specs.Prelude.{◌≡◌, ◌≤◌, ◌<◌, length, unwrap_or, IfSome};
+ghost use Rattle.std.specs.Prelude.{◌≡◌, ◌+◌, ◌*◌, ◌≤◌, ◌<◌, length, get_or, unwrap_or, IfSome};
+ghost use Rattle.numbers.specs.Numbers.{items};
 ghost use Rattle.edges.specs.Matrix.{most_nodes, matrix_size, edge_at, with_edge};
-ghost use Rattle.edges.specs.Drawn.{Room, Drew};
+ghost use Rattle.edges.specs.Drawn.{Drew};
 ghost use Rattle.edges.specs.Adding.{Adds, One, Others};
 
 use numbers::{ITEMS, MAX_COMMITTED};
@@ -34,11 +34,36 @@ impl Graph<'_> {
 
 // ---- drawing
 
+// The ranks of the nodes' versions, 64 a node, one an item: one more than the place of the node's version among the item's versions,
+// oldest first, or 0 where it has none.
+#[derive(Clone, Copy)]
+pub struct Ranks<'a> {
+    pub ranks: &'a [u16],
+    pub count: usize,
+    pub ghost few_nodes: { count ≤ most_nodes },
+    pub ghost ranks_fit: { count * items ≤ length ranks.now },
+}
+
 // A node's version of the item that is read: its rank, 0 where the node has none.
 #[derive(Clone, Copy)]
 struct Version {
     node: usize,
     rank: u16,
+}
+
+impl Ranks<'_> {
+    // A node's version of an item.
+    fn version(&self, node: usize, item: usize) -> Version
+        requires its_node { node < self.now.count }
+        requires its_item { item < items }
+        ensures its_node { result.node ≡ node }
+        ensures its_rank { result.rank ≡ get_or self.now.ranks.now (node * items + item) 0 }
+    {
+        Version {
+            node,
+            rank: self.ranks[node * ITEMS + item],
+        }
+    }
 }
 
 // Sets the edge from a to b.
@@ -71,59 +96,39 @@ fn draw_version(mat: &mut [u8], other: Version, reader: usize, source: Version)
 }
 
 // The edges for every node's version of the item, beside the reader's read of `source`.
-fn draw_versions(
-    mat: &mut [u8],
-    count: usize,
-    rank: &[u16],
-    reader: usize,
-    source: Version,
-    item: usize,
-)
-    requires room { Room mat.old rank.now count item }
+fn draw_versions(mat: &mut [u8], ranks: Ranks, reader: usize, source: Version, item: usize)
+    requires matrix_fits { matrix_size ≤ length mat.old }
+    requires its_item { item < items }
     requires reader_node { reader < most_nodes }
     requires source_node { 0 < source.rank → source.node < most_nodes }
-    ensures { Adds (Others rank.now item reader source.node source.rank count) mat.old mat.new }
+    ensures { Adds (Others ranks.entry.ranks.now item reader source.node source.rank ranks.entry.count) mat.old mat.new }
 {
-    for node in 0..count {
-        let other = Version {
-            node,
-            rank: rank[node * ITEMS + item],
-        };
-        draw_version(mat, other, reader, source);
+    for node in 0..ranks.count {
+        draw_version(mat, ranks.version(node, item), reader, source);
     }
 }
 
 // The edges of node k's read of the item from a node, or from version 0 where that is none: the matrix has them beside those that it had.
 // A read of one's own version draws none.
-pub fn draw_read(
-    mat: &mut [u8],
-    count: usize,
-    rank: &[u16],
-    k: usize,
-    source: Option<usize>,
-    item: usize,
-)
-    requires room { Room mat.old rank.now count item }
-    requires reader_node { k < count }
-    requires source_node { IfSome source (λ j. j < count) }
-    ensures { Drew rank.now count k item (unwrap_or source count) mat.old mat.new }
+pub fn draw_read(mat: &mut [u8], ranks: Ranks, k: usize, source: Option<usize>, item: usize)
+    requires matrix_fits { matrix_size ≤ length mat.old }
+    requires its_item { item < items }
+    requires reader_node { k < ranks.count }
+    requires source_node { IfSome source (λ j. j < ranks.count) }
+    ensures { Drew ranks.entry.ranks.now ranks.entry.count k item (unwrap_or source ranks.entry.count) mat.old mat.new }
 {
     let Some(j) = source else {
         // Version 0 comes before all others, so no edge leads to it, and its node stands in none.
         let initial = Version {
-            node: count,
+            node: ranks.count,
             rank: 0,
         };
-        draw_versions(mat, count, rank, k, initial, item);
+        draw_versions(mat, ranks, k, initial, item);
         return;
     };
     if j == k {
         return;
     }
     set_edge(mat, j, k);
-    let source = Version {
-        node: j,
-        rank: rank[j * ITEMS + item],
-    };
-    draw_versions(mat, count, rank, k, source, item);
+    draw_versions(mat, ranks, k, ranks.version(j, item), item);
 }

@@ -23,7 +23,7 @@ returns-in_default-2 c =
     drawing_broken _ _ _ _ _ b l.at.0 l.invariant _ (sym c.decode_at.ensures ∙ c.in_default.is)
 
 pub draw_record-requires : goal.draw_record-requires
-draw_record-requires c = (c.requires.tables, omega (arith, c.loop-record.invariant.size))
+draw_record-requires c = record { tables = c.requires.tables; matrix_fits = omega (arith, c.loop-record.invariant.size) }
 
 pub loop-record-smaller : goal.loop-record-smaller
 loop-record-smaller c =

@@ -6,7 +6,7 @@ use Rattle.drawing.proofs.WalkLaws.{Drawing}
 use Rattle.drawing.proofs.draw_log.Given as goal
 
 abbrev pub invariant-loop-record : goal.invariant-loop-record
-invariant-loop-record l = Drawing l.log l.nodes l.rank l.count l.mat l.at.0
+invariant-loop-record l = Drawing l.log l.nodes l.ranks.ranks.now l.ranks.count l.mat l.at.0
 
 abbrev pub decreases-loop-record : goal.decreases-loop-record
 decreases-loop-record l = length l.log - l.at.0

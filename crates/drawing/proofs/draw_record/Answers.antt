@@ -10,5 +10,5 @@ returns-then-item-gt-MAX_ITEM c = rw c.in-Read.is (no_item_drawn _ _ _ _ _ _ _ _
 
 pub returns : goal.returns
 returns c =
-    let t = c.requires.0 in
-    rw c.in-Read.is (read_drawn _ _ _ _ _ _ _ _ _ _ t.few t.within c.in-Some.ensures c.find-source.ensures _ c.draw_read.ensures)
+    let t = c.requires.tables in
+    rw c.in-Read.is (read_drawn _ _ _ _ _ _ _ _ _ _ t.few t.within c.in-Some.ensures c.find-source.ensures _ (rw c.from.ensures at c.draw_read.ensures))

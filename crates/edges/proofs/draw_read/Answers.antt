@@ -15,6 +15,8 @@ returns-then-j-k c = rw c.in-Some.is (drew_own _ _ _ _ _ _ c.if-j-k.true)
 pub returns : goal.returns
 returns c =
     let h = c.requires in
-    let j : c.in-Some.j < c.args.count = rw c.in-Some.is at h.source_node in
+    let j : c.in-Some.j < c.args.ranks.count = rw c.in-Some.is at h.source_node in
+    let v = c.version.ensures in
     rw c.in-Some.is
-    (drew_other _ _ _ _ _ c.if-j-k.false _ _ j h.reader_node h.room.few h.room.matrix (rw c.set_edge.ensures at c.draw_versions-2.ensures))
+    (drew_other _ _ _ _ _ c.if-j-k.false _ _ j h.reader_node c.args.ranks.few_nodes h.matrix_fits
+    (rw (c.set_edge.ensures, v.its_node, v.its_rank) at c.draw_versions-2.ensures))
