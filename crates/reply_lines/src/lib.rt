@@ -1,7 +1,7 @@
 // Writing reply lines into a lent buffer. No line has more than 33 bytes.
 #![tactic(auto)]
 
-ghost use Rattle.std.specs.Prelude.{◌≡◌, ◌+◌, ◌≤◌, ◌++◌, length};
+ghost use Rattle.std.specs.Prelude.{◌+◌, ◌≤◌, ◌++◌, length};
 ghost use Rattle.line_format.specs.Decimals.{bytes, digits};
 ghost use Rattle.line_format.specs.ReplyLines.{value_line, reply_line, log_line, bad_line};
 ghost use Rattle.reply_lines.specs.Written.{Put, Written};

@@ -22,24 +22,24 @@ fn next_byte<R: Read, W: Write>(input: &mut BufReader<R>, out: &mut W) -> io::Re
     Ok(next)
 }
 
-// Reads the next line, without its newline, and says whether there was one: a last line may lack its newline, but then has a byte. Of
-// a line over 63 bytes the first 64 are kept, which no operation is. A proved loop has to end, and nothing says that the input does,
-// so its turns are as many as no run uses up.
-fn read_line<R: Read, W: Write>(
+// The next line, without its newline, or none at the input's end; a last line may lack its newline, but then has a byte. Of a line over
+// 63 bytes the first 64 are kept, which no operation is. A proved loop has to end, and nothing says that the input does, so its turns
+// are as many as no run uses up.
+fn next_line<'a, R: Read, W: Write>(
     input: &mut BufReader<R>,
     out: &mut W,
-    line: &mut Vec<u8>,
-) -> io::Result<bool> {
+    line: &'a mut Vec<u8>,
+) -> io::Result<Option<&'a [u8]>> {
     line.clear();
     for _ in 0..u64::MAX {
         match next_byte(input, out)? {
             None => break,
-            Some(b'\n') => return Ok(true),
+            Some(b'\n') => return Ok(Some(line.as_slice())),
             Some(b) if line.len() < 64 => line.push(b)?,
             Some(_) => {}
         }
     }
-    Ok(!line.is_empty())
+    Ok((!line.is_empty()).then_some(line.as_slice()))
 }
 
 // Answers each line in turn; the bytes used at the end.
@@ -53,10 +53,10 @@ fn serve<R: Read, W: Write>(
     let mut line = Vec::with_capacity(alloc, 64)?;
     let mut said = [0u8; 40];
     for _ in 0..u64::MAX {
-        if !read_line(input, out, &mut line)? {
+        let Some(line) = next_line(input, out, &mut line)? else {
             break;
-        }
-        let Some(op) = op_lines::parse(&line) else {
+        };
+        let Some(op) = op_lines::parse(line) else {
             let n = reply_lines::write_bad(&mut said);
             out.write_all(&said[..n])?;
             continue;

@@ -87,9 +87,3 @@ module _ (a b : List ℕ) (at n : ℕ) where
       let g : each_spaced (stamps_at a 0 i) ++ spaced x ≡ each_spaced (stamps_at a 0 (i + 1)) =
       ap (λ (y : ℕ). each_spaced (stamps_at a 0 i) ++ spaced y) e ∙ sym (each_more a i) ∙ ap (λ (j : ℕ). each_spaced (stamps_at a 0 j)) (sym (add-one i)) in
       record { done = subst (λ (z : List ℕ). Put b at z r b₂) g t; within = omega arith; room = omega arith; long = q ∙ v }
-
-  pub listing_end : (i next : ℕ) (b' : List ℕ) → Listing a b at n i next b' → n ≤ i → Put b at (each_spaced (stamps_at a 0 n)) next b'
-  listing_end i next b' l h =
-      let w = l.within in
-      let e : i ≡ n = omega arith in
-      subst (λ (j : ℕ). Put b at (each_spaced (stamps_at a 0 j)) next b') e l.done

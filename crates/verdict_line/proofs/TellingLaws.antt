@@ -13,8 +13,6 @@ use Rattle.order_rules.specs.Reading.{stamps_at}
 use Rattle.order_rules.proofs.ReadingLaws.{stamps_read}
 use Rattle.checker_rules.specs.Answers.{Answer, no, judged, answer_for, stamps_for, checked_of, Small, CheckIs}
 use Rattle.checker_rules.specs.declared.Checked.{Checked}
-use Rattle.checker_rules.specs.declared.Checked.TheVariants.{Accepted, Cycle, Refused}
-use Rattle.log_format.specs.declared.Place.{Place}
 use Rattle.reply_lines.specs.Written.{Put, Written}
 use Rattle.reply_lines.proofs.PutLaws.{put_written}
 use Rattle.checker_rules.proofs.EachLaws.{stamps_few, stamps_small}
@@ -22,25 +20,6 @@ use Rattle.checker_rules.proofs.PanelLaws.{small}
 use Rattle.verdict_format.specs.Lines.{spaced, each_spaced, listed, refusal, verdict_line, longest}
 use Rattle.verdict_line.specs.Told.{line_of, Few}
 use Rattle.verdict_line.proofs.SpacedLaws.{spaced_short, each_short}
-
--- ---- what the code wrote, for each answer
-
-module _ {c : Checked} where
-  pub accepted_few : {n : ℕ} → c ≡ Accepted n → Few c → n ≤ 256
-  accepted_few e f = subst Few e f
-
-  pub cycle_few : {n : ℕ} → c ≡ Cycle n → Few c → n ≤ 256
-  cycle_few e f = subst Few e f
-
-  module _ (a b : List ℕ) (r : ℕ) (b' : List ℕ) where
-    pub accepted_line : {n : ℕ} → c ≡ Accepted n → Put b 0 (listed (bytes "accepted") (stamps_at a 0 n)) r b' → Put b 0 (line_of c a) r b'
-    accepted_line e p = subst (λ (d : Checked). Put b 0 (line_of d a) r b') (sym e) p
-
-    pub cycle_line : {n : ℕ} → c ≡ Cycle n → Put b 0 (listed (bytes "cycle") (stamps_at a 0 n)) r b' → Put b 0 (line_of c a) r b'
-    cycle_line e p = subst (λ (d : Checked). Put b 0 (line_of d a) r b') (sym e) p
-
-    pub refused_line : {d : ℕ} {q : Place} → c ≡ Refused d q → Put b 0 (refusal d q.0) r b' → Put b 0 (line_of c a) r b'
-    refused_line e p = subst (λ (d : Checked). Put b 0 (line_of d a) r b') (sym e) p
 
 -- ---- the stamps in the answer
 

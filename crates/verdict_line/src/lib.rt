@@ -1,7 +1,7 @@
 // The line that tells the verdict on a log and a version order.
 #![tactic(auto)]
 
-ghost use Rattle.std.specs.Prelude.{◌+◌, ◌*◌, ◌≤◌, ◌++◌, length};
+ghost use Rattle.std.specs.Prelude.{◌+◌, ◌*◌, ◌≤◌, length};
 ghost use Rattle.line_format.specs.Decimals.{digits};
 ghost use Rattle.reply_lines.specs.Written.{Put, Written};
 ghost use Rattle.order_rules.specs.Reading.{stamps_at};
