@@ -6,7 +6,7 @@ use mathlib.Core.List.{List}
 use Rattle.graph_theory.specs.Verdict.{Verdict}
 use Rattle.drawing.specs.Drawing.{DrewAll}
 use Rattle.graph.specs.Answer.{Answered, verdict_at}
-use Rattle.graph.specs.declared.Verdict.{Verdict as Counted}
+use Rattle.graph_theory.specs.declared.Verdict.{Verdict as Counted}
 use Rattle.graph.proofs.StampLaws.{drawn_verdict}
 use Rattle.checker.specs.Reads.{GraphIs}
 

@@ -7,7 +7,7 @@ use Rattle.serial_theory.specs.Edges.{VersionOrder}
 use Rattle.serial_theory.specs.Judged.{verdict}
 use Rattle.edges.specs.Ranked.{Ranked}
 use Rattle.graph.specs.Answer.{Answered}
-use Rattle.graph.specs.declared.Verdict.{Verdict as Counted}
+use Rattle.graph_theory.specs.declared.Verdict.{Verdict as Counted}
 
 -- the graph's answer and what it leaves in the buffer: for a log that passes, an order of its versions and their ranks, the verdict's
 pub record GraphIs (s nodes rank : List ℕ) (count : ℕ) (b : List ℕ) (r : Counted) (b' : List ℕ) : Type 0 where

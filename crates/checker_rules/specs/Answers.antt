@@ -9,8 +9,11 @@ use Rattle.serial_theory.specs.Judged.{verdict}
 use Rattle.order_rules.specs.Fields.{vs_of}
 use Rattle.order_rules.specs.Reading.{fields_of}
 use Rattle.order_rules.specs.Right.{right_order}
-use Rattle.checker_rules.specs.declared.Checked.{Checked}
-use Rattle.checker_rules.specs.declared.Checked.TheVariants.{Accepted, Cycle, Refused}
+use Rattle.std.specs.Prelude.{Result, Ok, Err}
+use Rattle.graph_theory.specs.declared.Verdict.{Verdict as Counted}
+use Rattle.graph_theory.specs.declared.Verdict.TheVariants.{Accepted, Cycle}
+use Rattle.checker_rules.specs.declared.Refusal.{Refusal}
+use Rattle.checker_rules.specs.Refusals.{refusal_code, refusal_number, refusal_with}
 
 -- a refusal with its code and number, or the verdict on the graph
 pub data Answer : Type 0 where
@@ -36,40 +39,51 @@ stamps_for (no c n) = []
 stamps_for (judged (accepted o)) = o
 stamps_for (judged (cycle c)) = c
 
--- the answer as the code gives it
-abbrev pub checked_of : Answer → Checked
-checked_of (no c n) = Refused c (record { 0 = n })
-checked_of (judged (accepted o)) = Accepted (length o)
-checked_of (judged (cycle c)) = Cycle (length c)
+-- the page's code and number for each answer
+abbrev pub code_for : Answer → ℕ
+code_for (no c n) = c
+code_for (judged (accepted o)) = 0
+code_for (judged (cycle c)) = 30
+
+abbrev pub number_for : Answer → ℕ
+number_for (no c n) = n
+number_for (judged (accepted o)) = length o
+number_for (judged (cycle c)) = length c
+
+-- the answer as the code gives it: the verdict with how many stamps it has, or the refusal with that code and number
+abbrev pub checked_of : Answer → Result Counted Refusal
+checked_of (no c n) = Err (refusal_with c n)
+checked_of (judged (accepted o)) = Ok (Accepted (length o))
+checked_of (judged (cycle c)) = Ok (Cycle (length c))
 
 -- the page's code and number for each case
-abbrev pub checked_code : Checked → ℕ
-checked_code (Accepted n) = 0
-checked_code (Cycle n) = 30
-checked_code (Refused c p) = c
+abbrev pub checked_code : Result Counted Refusal → ℕ
+checked_code (Ok (Accepted n)) = 0
+checked_code (Ok (Cycle n)) = 30
+checked_code (Err e) = refusal_code e
 
-abbrev pub checked_number : Checked → ℕ
-checked_number (Accepted n) = n
-checked_number (Cycle n) = n
-checked_number (Refused c p) = p.0
+abbrev pub checked_number : Result Counted Refusal → ℕ
+checked_number (Ok (Accepted n)) = n
+checked_number (Ok (Cycle n)) = n
+checked_number (Err e) = refusal_number e
 
 -- checking a log and an order with the buffer b answers r and leaves b': the stamps at its front, every other byte as it was
-pub record CheckIs (log order b : List ℕ) (r : Checked) (b' : List ℕ) : Type 0 where
+pub record CheckIs (log order b : List ℕ) (r : Result Counted Refusal) (b' : List ℕ) : Type 0 where
   pub answer : r ≡ checked_of (answer_for log order (length b))
   pub bytes : b' ≡ splice b 0 (stamp_bytes (stamps_for (answer_for log order (length b))))
 
 -- ---- the C call
 
 -- code times 65,536 plus number
-abbrev pub returned : Checked → ℕ
+abbrev pub returned : Result Counted Refusal → ℕ
 returned r = checked_code r * 65536 + checked_number r
 
 -- a code and a number that can be told apart again
-pub record Small (r : Checked) : Type 0 where
+pub record Small (r : Result Counted Refusal) : Type 0 where
   pub code : checked_code r ≤ 30
   pub number : checked_number r < 65536
 
 -- the C call answers one number for what checking answers, and leaves the same b'
 pub record PanelIs (log order b : List ℕ) (r : ℕ) (b' : List ℕ) : Type 0 where
-  pub answer : r ≡ returned (checked_of (answer_for log order (length b)))
+  pub answer : r ≡ code_for (answer_for log order (length b)) * 65536 + number_for (answer_for log order (length b))
   pub bytes : b' ≡ splice b 0 (stamp_bytes (stamps_for (answer_for log order (length b))))

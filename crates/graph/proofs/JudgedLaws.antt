@@ -25,7 +25,7 @@ use Rattle.taking.specs.Nodes.{indices, left_of}
 use Rattle.taking.specs.Taken.{Taken}
 use Rattle.walking.specs.Walked.{part_of, Walked}
 use Rattle.graph.specs.Answer.{Turned, Answered}
-use Rattle.graph.specs.declared.Verdict.TheVariants.{Accepted, Cycle as Ring}
+use Rattle.graph_theory.specs.declared.Verdict.TheVariants.{Accepted, Cycle as Ring}
 use Rattle.taking.proofs.NodesLaws.{index_below, up_from_rising, left_in}
 use Rattle.taking.proofs.TakenLaws.{empty}
 use Rattle.graph.proofs.AnswerLaws.{node_bytes, all_in, turn_least}

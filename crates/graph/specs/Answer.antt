@@ -7,8 +7,8 @@ use Rattle.graph_theory.specs.Verdict.{Verdict, accepted, cycle, stamps_of, verd
 use Rattle.graph_theory.specs.Standing.{renamed}
 use Rattle.edges.specs.Matrix.{edge_at}
 use Rattle.taking.specs.Nodes.{indices}
-use Rattle.graph.specs.declared.Verdict.{Verdict as Counted}
-use Rattle.graph.specs.declared.Verdict.TheVariants.{Accepted, Cycle}
+use Rattle.graph_theory.specs.declared.Verdict.{Verdict as Counted}
+use Rattle.graph_theory.specs.declared.Verdict.TheVariants.{Accepted, Cycle}
 
 -- how many stamps an answer has
 abbrev pub found_number : Counted → ℕ

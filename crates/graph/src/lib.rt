@@ -9,16 +9,10 @@ ghost use Rattle.log_format.specs.Bytes.{stamp_bytes, splice};
 ghost use Rattle.graph.specs.Answer.{stamps_at, Turned, Answered, verdict_at};
 
 use edges::Graph;
+use graph_theory::Verdict;
 use log_writer::put4;
 use taking::take_all;
 use walking::find_cycle;
-
-// What the graph answers, with the number of stamps written: all nodes were taken, or there is a cycle.
-#[derive(Clone, Copy, Debug, PartialEq, Eq)]
-pub enum Verdict {
-    Accepted(usize),
-    Cycle(usize),
-}
 
 // The first place of a cycle's smallest node.
 fn least_at(cycle: &[u16]) -> usize

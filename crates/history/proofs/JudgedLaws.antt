@@ -2,24 +2,24 @@
 -- Assumes nothing.
 use Prim.Native.Nat.{ℕ, ◌≤◌}
 use native.Mathlib.Omega.{arith}
-use mathlib.Core.Path.{◌≡◌, refl, sym, ap, ◌∙◌, subst}
+use mathlib.Core.Path.{◌≡◌, refl, sym, ◌∙◌, subst}
 use mathlib.Core.List.{List, []}
 use lib.ListN.{length, replicate}
 use Rattle.lists.specs.Member.{Rising}
 use Rattle.log_format.specs.Bytes.{Bytes}
-use Rattle.log_format.specs.declared.Place.{Place}
 use Rattle.history_rules.specs.WellFormed.{most_committed, count_commits}
 use Rattle.history_rules.specs.History.{History, passed, refused, history_of}
 use Rattle.history_rules.proofs.HistoryLaws.{passed_well}
 use Rattle.serial_theory.proofs.CommittedLaws.{committed_rising, committed-number}
 use Rattle.index.specs.Index.{max_rows, words}
 use Rattle.index.proofs.RowLaws.{empty_table, empty_room, look_empty}
-use Rattle.history.specs.declared.Judged.{Judged}
-use Rattle.history.specs.declared.Judged.TheVariants.{Passed, Refused}
+use Rattle.std.specs.Prelude.{Result, Ok, Err}
+use Rattle.history_rules.specs.declared.BadLog.{BadLog}
+use Rattle.history_rules.specs.Refusals.{bad_log_code, bad_log_number, bad_log_with}
+use Rattle.history_rules.proofs.RefusalLaws.{refused_keeps}
 use Rattle.history.specs.Judging.{judged_of, Lent, Judgement}
 use Rattle.history.specs.Nodes.{Passes, Nodes}
 use Rattle.history.specs.Reads.{ReadLog, ReadIs}
-use Rattle.history.proofs.OtherKinds.{NotPassed}
 
 -- fresh words
 pub lent_zeros : Lent (replicate words 0)
@@ -27,24 +27,22 @@ lent_zeros = record { table = empty_table words (omega arith); blank = λ k. loo
 
 module _ {s m : List ℕ} where
   -- a refusal is the log's
-  pub read_refused : (nodes : List ℕ) (r : Judged) → Judgement s m r → NotPassed r → ReadIs s m nodes r
-  read_refused nodes (Passed k) j o = absurd o
-  read_refused nodes (Refused c p) j o = go (history_of s) refl (sym j.answer)
+  pub read_refused : Bytes s → (nodes : List ℕ) {r : Result ℕ BadLog} → Judgement s m r → (x : BadLog) → r ≡ Err x → ReadIs s m nodes (Err x)
+  read_refused b nodes {r} j x is = go (history_of s) refl (sym j.answer ∙ is)
     where
-      go : (h : History) → history_of s ≡ h → judged_of h ≡ Refused c p → history_of s ≡ refused c p.0
+      go : (h : History) → history_of s ≡ h → judged_of h ≡ Err x → history_of s ≡ refused (bad_log_code x) (bad_log_number x)
       go (passed log) q f = let z : ◌≡◌ {A = ℕ} 0 1 = cc in absurd (omega arith)
       go (refused d n) q f =
-          let u : d ≡ c = cc in
-          let w : ◌≡◌ {A = Place} (record { 0 = n }) p = cc in
-          let v : n ≡ p.0 = ap (λ (x : Place). x.0) w in
-          q ∙ rw (u, v)
+          let k = refused_keeps s b d n q in
+          let e : bad_log_with d n ≡ x = cc in
+          q ∙ rw (← e, k.code, k.number)
 
-  module _ {r : Judged} (j : Judgement s m r) {k : ℕ} (e : r ≡ Passed k) where
+  module _ {r : Result ℕ BadLog} (j : Judgement s m r) {k : ℕ} (e : r ≡ Ok k) where
     -- a log that passes has events
     pub judged_passed : Passes s
     judged_passed = go (history_of s) refl (sym j.answer ∙ e)
       where
-        go : (h : History) → history_of s ≡ h → judged_of h ≡ Passed k → Passes s
+        go : (h : History) → history_of s ≡ h → judged_of h ≡ Ok k → Passes s
         go (passed log) q f = (log, q)
         go (refused d n) q f = let z : ◌≡◌ {A = ℕ} 0 1 = cc in absurd (omega arith)
 
@@ -70,9 +68,9 @@ module _ {s m : List ℕ} where
         }
 
 -- what was answered, where it is known which
-module _ (s m nodes : List ℕ) {r : Judged} (i : ReadIs s m nodes r) where
-  pub was_refused : {c : ℕ} {p : Place} → r ≡ Refused c p → history_of s ≡ refused c p.0
+module _ (s m nodes : List ℕ) {r : Result ℕ BadLog} (i : ReadIs s m nodes r) where
+  pub was_refused : {x : BadLog} → r ≡ Err x → history_of s ≡ refused (bad_log_code x) (bad_log_number x)
   was_refused e = subst (ReadIs s m nodes) e i
 
-  pub was_read : {count : ℕ} → r ≡ Passed count → ReadLog s m nodes count
+  pub was_read : {count : ℕ} → r ≡ Ok count → ReadLog s m nodes count
   was_read e = subst (ReadIs s m nodes) e i

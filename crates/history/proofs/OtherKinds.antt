@@ -1,4 +1,4 @@
--- What the `else` of a `let else` knows, a tag: the record is no read, or no commit, and the log does not pass.
+-- What the `else` of a `let else` knows, a tag: the record is no read, or no commit.
 -- Assumes nothing.
 use Prim.Native.Nat.{ℕ}
 use native.Mathlib.Omega.{arith}
@@ -12,9 +12,6 @@ use Rattle.log_format.specs.Events.{event_of}
 use Rattle.log_format.specs.declared.Record.{Record}
 use Rattle.log_format.specs.declared.Record.TheVariants.{Begin, Read, Write, Commit, Abort}
 use Rattle.history_rules.specs.History.{dangling}
-use Rattle.history.specs.contracts.Judged as judged
-use Rattle.history.specs.declared.Judged.{Judged}
-use Rattle.history.specs.declared.Judged.TheVariants.{Passed, Refused}
 use Rattle.history.specs.Nodes.{with_commit}
 
 -- the record's tag
@@ -40,12 +37,3 @@ no-commit l (Commit t) (inr (inl e)) = absurd (omega arith)
 no-commit l (Commit t) (inr (inr (inl e))) = absurd (omega arith)
 no-commit l (Commit t) (inr (inr (inr e))) = absurd (omega arith)
 no-commit l (Abort t c) k = refl
-
--- an answer that refuses
-abbrev pub NotPassed : Judged → Type 0
-NotPassed (Passed n) = ⊥
-NotPassed (Refused c p) = Unit {0}
-
-pub no_pass : (v : Judged) → tag_of judged.the_type v ≡ 1 → NotPassed v
-no_pass (Passed n) e = omega arith
-no_pass (Refused c p) e = tt

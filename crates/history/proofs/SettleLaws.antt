@@ -24,15 +24,17 @@ use Rattle.history_rules.specs.Held.{stage_in, Holds}
 use Rattle.history_rules.proofs.FieldSteps.{step_field, step_end, step_bad}
 use Rattle.history_rules.proofs.HeldLaws.{settled_same}
 use Rattle.index.specs.Index.{table_of}
-use Rattle.history.specs.declared.Judged.{Judged}
-use Rattle.history.specs.declared.Judged.TheVariants.{Passed, Refused}
+use Rattle.std.specs.Prelude.{Result}
+use Rattle.history_rules.specs.declared.BadLog.{BadLog}
+use Rattle.history_rules.specs.declared.BadLog.TheVariants.{NoLog, TooMany, Dangling}
+use Rattle.history_rules.specs.Refusals.{bad_log_code, bad_log_number}
+use Rattle.history_rules.proofs.RefusalLaws.{bad_log_back}
 use Rattle.history.specs.Judging.{judged_of, Lent, Walk, Walked, later, Judgement}
-use Rattle.history.proofs.OtherKinds.{NotPassed}
 use Rattle.history.proofs.PassedLaws.{scanned_all, history_headed, history_unheaded, passed_parts}
 
 -- ---- the second walk
 
-pub settle_many : (st : ℕ → ℕ) (fs : List Entry) {k : ℕ} → k ≡ count_commits (events_in fs) → most_committed < k → Refused 26 (record { 0 = 0 }) ≡ later st fs
+pub settle_many : (st : ℕ → ℕ) (fs : List Entry) {k : ℕ} → k ≡ count_commits (events_in fs) → most_committed < k → Err TooMany ≡ later st fs
 settle_many st fs {k} g h = rw (← g, lt-ltb most_committed k h)
 
 -- where a place of the fields has been reached, none before it dangles
@@ -49,18 +51,18 @@ module _ {s : List ℕ} {st : ℕ → ℕ} {at : ℕ} (i : Settling s st at) whe
     ends a e = rw (← g, le-ltb most_committed k few) (sym (ap judged_of (i.rest ∙ e)))
 
     -- none dangles
-    pub settle_end : decode_at s at ≡ Ok None → Passed k ≡ later st (fields_from s 4)
+    pub settle_end : decode_at s at ≡ Ok None → Ok k ≡ later st (fields_from s 4)
     unfolding settled
-    settle_end e = ap Passed g ∙ ends (passed (events_in (fields_from s 4))) (rw (step_end s at e))
+    settle_end e = ap Ok g ∙ ends (passed (events_in (fields_from s 4))) (rw (step_end s at e))
 
     -- the same, where no record stands
-    pub settle_broken : (x : BadField) → decode_at s at ≡ Err x → Passed k ≡ later st (fields_from s 4)
+    pub settle_broken : (x : BadField) → decode_at s at ≡ Err x → Ok k ≡ later st (fields_from s 4)
     unfolding settled
-    settle_broken x e = ap Passed g ∙ ends (passed (events_in (fields_from s 4))) (rw (step_bad s at x e))
+    settle_broken x e = ap Ok g ∙ ends (passed (events_in (fields_from s 4))) (rw (step_bad s at x e))
 
     -- this one does
     pub settle_bad : Bytes s → {r : Record} {m : ℕ} → decode_at s at ≡ found r m → dangling st (event_of r) ≡ true
-        → Refused 27 (record { 0 = at }) ≡ later st (fields_from s 4)
+        → Err (Dangling (record { 0 = at })) ≡ later st (fields_from s 4)
     unfolding settled
     settle_bad b {r} {m} e d = ends (refused 27 at) (rw (step_field s b at r m e, d))
 
@@ -79,27 +81,31 @@ refused_passed c p log e = let z : ◌≡◌ {A = ℕ} 0 1 = cc in absurd (omega
 
 module _ {s m : List ℕ} where
   -- 21
-  pub judge_unheaded : header_ok s ≡ false → Lent m → Judgement s m (Refused 21 (record { 0 = 0 }))
+  pub judge_unheaded : header_ok s ≡ false → Lent m → Judgement s m (Err NoLog)
   judge_unheaded h t =
       let q = history_unheaded s h in
       record { answer = rw q; table = t.table; holds = λ log e. refused_passed 21 0 log (sym q ∙ e) }
 
   -- 22 to 25
-  pub judge_stopped : header_ok s ≡ true → (j : Judged) → Walked s m j → NotPassed j → Judgement s m j
-  judge_stopped h (Passed k) w o = absurd o
-  judge_stopped h (Refused c p) w o =
-      let e : history_of s ≡ refused c p.0 = history_headed s h ∙ ap (ended (fields_from s 4)) w.is in
-      record { answer = rw e; table = w.table; holds = λ log g. refused_passed c p.0 log (sym e ∙ g) }
+  pub judge_stopped : header_ok s ≡ true → {j : Result ℕ BadLog} → Walked s m j → (x : BadLog) → j ≡ Err x → Judgement s m (Err x)
+  judge_stopped h {j} w x is =
+      let q : Walked s m (Err x) = subst (Walked s m) is w in
+      let e : history_of s ≡ refused (bad_log_code x) (bad_log_number x) = history_headed s h ∙ ap (ended (fields_from s 4)) q.is in
+      record {
+        answer = ap Err (sym (bad_log_back x)) ∙ ap judged_of (sym e);
+        table = q.table;
+        holds = λ log g. refused_passed (bad_log_code x) (bad_log_number x) log (sym e ∙ g);
+      }
 
-  module _ (h : header_ok s ≡ true) {j : Judged} (w : Walked s m j) {k : ℕ} (is : j ≡ Passed k) where
-    all_right : Walk (fields_from s 4) (table_of m) (Passed k)
+  module _ (h : header_ok s ≡ true) {j : Result ℕ BadLog} (w : Walked s m j) {k : ℕ} (is : j ≡ Ok k) where
+    all_right : Walk (fields_from s 4) (table_of m) (Ok k)
     all_right = rw is at w.is
 
     pub judge_count : k ≡ count_commits (events_in (fields_from s 4))
     judge_count = all_right.2
 
     -- 26 and 27, or it passes
-    pub judge_settled : {v : Judged} → v ≡ later (stage_in (table_of m)) (fields_from s 4) → Judgement s m v
+    pub judge_settled : {v : Result ℕ BadLog} → v ≡ later (stage_in (table_of m)) (fields_from s 4) → Judgement s m v
     judge_settled {v} e =
         let fs = fields_from s 4 in
         let past = all_right.0 in

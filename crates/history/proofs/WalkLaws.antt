@@ -7,10 +7,9 @@ use native.Mathlib.Omega.{arith}
 use mathlib.Core.Path.{◌≡◌, refl, sym, ap, ◌∙◌}
 use mathlib.Core.List.{List, [], ◌∷◌}
 use mathlib.Core.Bool.{Bool, true, false, cond, ◌||◌}
-use mathlib.Core.Logic.{◌≢◌}
 use lib.ListN.{length}
 use lib.Dec.{eqb, ltb}
-use borrow.Author.Tests.{eq-eqb, ne_eqb, ltb-false}
+use borrow.Author.Tests.{eq-eqb, ltb-false}
 use Rattle.log_format.specs.Bytes.{Bytes}
 use Rattle.log_format.specs.Fields.{decode_at, found}
 use Rattle.log_format.specs.Whole.{max_log}
@@ -27,8 +26,16 @@ use Rattle.history_rules.proofs.FieldSteps.{step_field, step_end, step_bad}
 use Rattle.history_rules.proofs.HeldLaws.{holds_none, holds_more, fault_same}
 use Rattle.index.specs.Index.{max_rows, table_of, Table, Room}
 use Rattle.index.proofs.RowLaws.{room_fewer}
-use Rattle.transactions.specs.Transactions.{fault_in, Noted}
-use Rattle.history.specs.declared.Judged.TheVariants.{Passed, Refused}
+use Rattle.transactions.specs.Transactions.{told_code, fault_in, Noted}
+use Rattle.std.specs.Prelude.{Result, ⊤}
+use Rattle.std.specs.Result.{MatchResult, IsErrAnd}
+use Rattle.std.proofs.lemmas.Result.{err_from_is_err_and}
+use Rattle.log_format.specs.declared.Place.{Place}
+use Rattle.history_rules.specs.declared.Fault.{Fault}
+use Rattle.history_rules.specs.declared.Fault.TheVariants.{Stamp, Item, Version}
+use Rattle.history_rules.specs.declared.BadLog.{BadLog}
+use Rattle.history_rules.specs.declared.BadLog.TheVariants.{Wrong, BadField as BadLog-as-BadField}
+use Rattle.history_rules.specs.Refusals.{fault_code}
 use Rattle.history.specs.Judging.{Lent, Walked}
 
 -- ---- a record without a fault can be noted
@@ -47,6 +54,26 @@ kept st wr (reads t x j v) e = tt
 kept st wr (writes t x v) e = kept_item (idle st t) _ x e
 kept st wr (commits t) e = tt
 kept st wr (aborts t c) e = tt
+
+-- what `map_err` gives: the fault with its place, or nothing is wrong
+module _ {P : Fault → BadLog → Type 0} (p : Place) (is : (f : Fault) (e : BadLog) → P f e → e ≡ Wrong f p) {w : Result ⊤ BadLog} where
+  pub told_wrong : (v : Result ⊤ Fault) {x : BadLog} → MatchResult v (λ u. w ≡ Ok u) (λ f. IsErrAnd w (P f)) → w ≡ Err x
+      → (f : Fault) × ((v ≡ Err f) × (x ≡ Wrong f p))
+  told_wrong (Ok u) k e = let z : ◌≡◌ {A = ℕ} 0 1 = cc in absurd (omega arith)
+  told_wrong (Err f) {x} k e = let q = err_from_is_err_and w k in let y : x ≡ q.0 = cc in (f, (refl, y ∙ is f q.0 q.2))
+
+  pub told_right : (v : Result ⊤ Fault) {u : ⊤} → MatchResult v (λ u. w ≡ Ok u) (λ f. IsErrAnd w (P f)) → w ≡ Ok u → told_code v ≡ 0
+  told_right (Ok u) k e = refl
+  told_right (Err f) k e =
+      let q = err_from_is_err_and w k in
+      let y : w ≡ Err q.0 = q.1 in
+      let z : ◌≡◌ {A = ℕ} 0 1 = cc in
+      absurd (omega arith)
+
+fault-code_not_0 : (x : Fault) → eqb (fault_code x) 0 ≡ false
+fault-code_not_0 Stamp = refl
+fault-code_not_0 Item = refl
+fault-code_not_0 Version = refl
 
 -- ---- the walk
 
@@ -81,7 +108,7 @@ walk_start {s} {m} t l = record {
 
 module _ {s m : List ℕ} {z at k : ℕ} (i : Walking s m z at k) where
   -- no field is left
-  pub walk_end : decode_at s at ≡ Ok None → Walked s m (Passed k)
+  pub walk_end : decode_at s at ≡ Ok None → Walked s m (Ok k)
   unfolding scanned
   walk_end e = record {
     table = i.table;
@@ -89,7 +116,7 @@ module _ {s m : List ℕ} {z at k : ℕ} (i : Walking s m z at k) where
   }
 
   -- no record stands there
-  pub walk_broken : (x : BadField) → decode_at s at ≡ Err x → Walked s m (Refused 22 x.0)
+  pub walk_broken : (x : BadField) → decode_at s at ≡ Err x → Walked s m (Err (BadLog-as-BadField x.0))
   unfolding scanned
   walk_broken x e = record { table = i.table; is = i.rest ∙ rw (step_bad s at x e) }
 
@@ -101,8 +128,8 @@ module _ {s m : List ℕ} {z at k : ℕ} (i : Walking s m z at k) where
         i.rest ∙ rw (step_field s b at r n e) (ap (λ x. cond (eqb x 0) (scanned (event_of r ∷ i.past) (fields_from s n)) (wrong x at)) q)
 
     -- it is bad
-    pub walk_bad : c ≢ 0 → Walked s m (Refused c (record { 0 = at }))
-    walk_bad h = record { table = i.table; is = one ∙ rw (ne_eqb c 0 h) }
+    pub walk_bad : (x : Fault) → c ≡ fault_code x → Walked s m (Err (Wrong x (record { 0 = at })))
+    walk_bad x h = record { table = i.table; is = one ∙ rw (h, fault-code_not_0 x) }
 
     pub walk_room : length s ≤ max_log → Room 1 m
     walk_room l =

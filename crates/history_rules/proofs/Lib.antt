@@ -13,3 +13,4 @@ pub mod SmallLogsLaws
 pub mod NoneLaws
 pub mod AskedLaws
 pub mod PlaceLaws
+pub mod RefusalLaws

@@ -4,4 +4,5 @@ pub mod Faults
 pub mod History
 pub mod Answers
 pub mod Held
+pub mod Refusals
 pub mod SmallLogs

@@ -7,4 +7,3 @@ pub mod TimestampLaws
 pub mod WroteLaws
 pub mod RankLaws
 pub mod TableLaws
-pub mod NoFields

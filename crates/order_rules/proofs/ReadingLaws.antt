@@ -7,14 +7,13 @@ use native.Mathlib.Omega.{arith}
 use mathlib.Core.Path.{◌≡◌, refl, sym, ap, ◌∙◌, subst}
 use mathlib.Core.List.Memᴰ
 use mathlib.Core.List.{List, [], ◌∷◌, ◌++◌}
-use mathlib.Core.Option.{Option, some, none}
+use Rattle.std.specs.Prelude.{Option, Some, None}
 use lib.Dec.{leb, ltb, eqb}
 use lib.ListN.{length, get_or, drop, length-append, length-drop, drop_of_length-le}
 use lib.Seq.{drop-cons, drop-drop, get_or-drop}
 use borrow.Author.Tests.{le-leb, lt-leb, le-ltb, eqb-true, ltb-false, leb-true}
 use Rattle.lists.specs.Member.{◌∈◌}
 use Rattle.lists.proofs.ChoiceLaws.{cond_by}
-use Rattle.lists.proofs.TestLaws.{none_some}
 use Rattle.lists.proofs.OrderLaws.{in_nil}
 use Rattle.log_format.specs.Bytes.{Bytes, num2, num4, bytes4, stamp_bytes}
 use Rattle.log_format.specs.Fields.{body_len}
@@ -22,14 +21,14 @@ use Rattle.log_format.proofs.StampBytesLaws.{length-stamp_bytes}
 use Rattle.log_format.proofs.RoundTrip.{back, forth, body_is, body_inv}
 use Rattle.order_rules.specs.Fields.{Field, field, body_of, field_of, order_of, Filled, FieldFits, Fits}
 use Rattle.order_rules.specs.Reading.{found_at, stamps_at, next_at, before, after, fields_at, read_from, read_order, StandsAt}
-use Rattle.order_rules.specs.declared.Found.{Found}
-use Rattle.order_rules.specs.declared.Found.TheVariants.{Stamps, End, Bad}
+use Rattle.order_rules.specs.Reading.{Found, stamps, at_end, bad}
+use Rattle.order_rules.specs.declared.Head.{Head}
 
 -- ---- one field: the test and the relation
 
 module _ (s : List ℕ) (at : ℕ) where
   -- where a field stands, it is found
-  pub stands_found : (x n : ℕ) → StandsAt s at x n → found_at s at ≡ Stamps x n
+  pub stands_found : (x n : ℕ) → StandsAt s at x n → found_at s at ≡ stamps x n
   unfolding found_at
   stands_found x n t =
       let w = t.within in
@@ -41,7 +40,7 @@ module _ (s : List ℕ) (at : ℕ) where
       rw (lt-leb _ _ here, t.tag, b, le-ltb (body_of n) 5 (omega arith), r, q, t.item)
 
   -- by cases on what is found: the end, a field that stands there, or neither
-  pub found_by : (Q : Found → Type 0) → (length s ≤ at → Q End) → ((x n : ℕ) → StandsAt s at x n → Q (Stamps x n)) → Q Bad → Q (found_at s at)
+  pub found_by : (Q : Found → Type 0) → (length s ≤ at → Q at_end) → ((x n : ℕ) → StandsAt s at x n → Q (stamps x n)) → Q bad → Q (found_at s at)
   unfolding found_at
   found_by Q e f g =
       cond_by Q (leb (length s) at) (λ l. e (leb-true _ _ l)) (λ l.
@@ -57,21 +56,24 @@ module _ (s : List ℕ) (at : ℕ) where
           record { tag = t; body = i.0 ∙ c; item = refl; some = omega arith; within = omega arith }
 
   -- what is found stands there
-  pub found_stands : (x n : ℕ) → found_at s at ≡ Stamps x n → StandsAt s at x n
+  pub found_stands : (x n : ℕ) → found_at s at ≡ stamps x n → StandsAt s at x n
   found_stands x n =
-      found_by (λ d. d ≡ Stamps x n → StandsAt s at x n)
+      found_by (λ d. d ≡ stamps x n → StandsAt s at x n)
       (λ _ e. let z : ◌≡◌ {A = ℕ} 0 1 = cc in absurd (omega arith))
-      (λ y m t e. let p : x ≡ y = cc in let q : n ≡ m = cc in rw (p, q) t)
+      (λ y m t e. let h : ◌≡◌ {A = Head} (record { item = x; stamps = n }) (record { item = y; stamps = m }) = cc in
+      let p : x ≡ y = ap (λ (k : Head). k.item) h in
+      let q : n ≡ m = ap (λ (k : Head). k.stamps) h in
+      rw (p, q) t)
       (λ e. let z : ◌≡◌ {A = ℕ} 0 1 = cc in absurd (omega arith))
 
   -- a place past the last byte is the end, and no other is
-  pub past_end : length s ≤ at → found_at s at ≡ End
+  pub past_end : length s ≤ at → found_at s at ≡ at_end
   unfolding found_at
   past_end h = rw (le-leb _ _ h)
 
-  pub end_past : found_at s at ≡ End → length s ≤ at
+  pub end_past : found_at s at ≡ at_end → length s ≤ at
   end_past =
-      found_by (λ d. d ≡ End → length s ≤ at)
+      found_by (λ d. d ≡ at_end → length s ≤ at)
       (λ l _. l)
       (λ y m t e. let z : ◌≡◌ {A = ℕ} 0 1 = cc in absurd (omega arith))
       (λ e. let z : ◌≡◌ {A = ℕ} 0 1 = cc in absurd (omega arith))
@@ -131,7 +133,7 @@ module _ (s q : List ℕ) (at x : ℕ) (ks : List ℕ) (e : drop at s ≡ field_
 
 -- fields from a place on are read back, with any number of steps that suffices
 fields_read : (k : ℕ) (s : List ℕ) (at : ℕ) (fs : List Field) → drop at s ≡ order_of fs → Fits fs → Filled fs → length (order_of fs) < k
-    → fields_at k s at ≡ some fs
+    → fields_at k s at ≡ Some fs
 unfolding fields_at
 fields_read zero s at fs e f g h = absurd (omega arith)
 fields_read (suc k) s at [] e f g h = let l = len s _ at e in rw (past_end s at (omega arith))
@@ -145,7 +147,7 @@ fields_read (suc k) s at (field x (j ∷ js) ∷ fs) e f g h =
     rw (stands_found s at x (length ks) t, r.0, fields_read k s (next_at at (length ks)) fs r.1 f.1 g (omega arith))
 
 -- an order's fields are read back from its bytes
-pub read-written : (fs : List Field) → Fits fs → Filled fs → read_order (order_of fs) ≡ some fs
+pub read-written : (fs : List Field) → Fits fs → Filled fs → read_order (order_of fs) ≡ Some fs
 unfolding read_order read_from
 read-written fs f g = fields_read (suc (length (order_of fs) - 0)) (order_of fs) 0 fs refl f g (omega arith)
 
@@ -217,20 +219,20 @@ module _ (s : List ℕ) (b : Bytes s) where
         let e : get_or s (at + 1) 0 * 256 + get_or s (at + 2) 0 ≡ body_of n = rw add_assoc at t.body in
         record { item = subst (λ (i : ℕ). i < 256) (sym t.item) (b (at + 3)); stamps = stamps_fit (at + 4) n; body = omega arith }
 
-  before_some : (f : Field) (o : Option (List Field)) (fs : List Field) → before f o ≡ some fs → (gs : List Field) × (o ≡ some gs) × (fs ≡ f ∷ gs)
-  before_some f none fs e = none_some e
-  before_some f (some gs) fs e = (gs, refl, cc)
+  before_some : (f : Field) (o : Option (List Field)) (fs : List Field) → before f o ≡ Some fs → (gs : List Field) × (o ≡ Some gs) × (fs ≡ f ∷ gs)
+  before_some f None fs e = cc
+  before_some f (Some gs) fs e = (gs, refl, cc)
 
   filled_one : (s : List ℕ) (at x n : ℕ) (gs : List Field) → 0 < n → Filled gs → Filled (field x (stamps_at s at n) ∷ gs)
   filled_one s at x zero gs h g = absurd (omega arith)
   filled_one s at x (suc n) gs h g = g
 
   -- bytes that are read as fields are those fields' bytes; they fit, and none is empty
-  fields-written : (k at : ℕ) (fs : List Field) → fields_at k s at ≡ some fs → (drop at s ≡ order_of fs) × Fits fs × Filled fs
+  fields-written : (k at : ℕ) (fs : List Field) → fields_at k s at ≡ Some fs → (drop at s ≡ order_of fs) × Fits fs × Filled fs
   unfolding fields_at
-  fields-written zero at fs = λ e. none_some e
+  fields-written zero at fs = λ e. cc
   fields-written (suc k) at fs =
-      found_by s at (λ d. after (fields_at k s) s at d ≡ some fs → (drop at s ≡ order_of fs) × Fits fs × Filled fs)
+      found_by s at (λ d. after (fields_at k s) s at d ≡ Some fs → (drop at s ≡ order_of fs) × Fits fs × Filled fs)
       (λ l e. let q : fs ≡ [] = cc in rw q (drop_of_length-le s l, tt, tt))
       (λ x n t e.
       let r = before_some _ (fields_at k s (next_at at n)) fs e in
@@ -240,10 +242,10 @@ module _ (s : List ℕ) (b : Bytes s) where
         (stands_fits at x n t, ih.1),
         filled_one s (at + 4) x n r.0 t.some ih.2,
       ))
-      (λ e. none_some e)
+      (λ e. cc)
 
 -- bytes that are read as an order are its fields' bytes; these fit, and none is empty
-pub written_read : (s : List ℕ) → Bytes s → (fs : List Field) → read_order s ≡ some fs → (s ≡ order_of fs) × Fits fs × Filled fs
+pub written_read : (s : List ℕ) → Bytes s → (fs : List Field) → read_order s ≡ Some fs → (s ≡ order_of fs) × Fits fs × Filled fs
 unfolding read_order read_from
 written_read s b fs e = fields-written s b (suc (length s - 0)) 0 fs e
 
@@ -269,10 +271,10 @@ module _ (s : List ℕ) (at : ℕ) where
       rw (stands_found s at x n t) (ap (before (field x (stamps_at s (at + 4) n)))
       (stable s (length s - at) (suc (length s - next_at at n)) (next_at at n) (omega arith) (omega arith)))
 
-  pub step_end : found_at s at ≡ End → read_from s at ≡ some []
+  pub step_end : found_at s at ≡ at_end → read_from s at ≡ Some []
   unfolding read_from fields_at
   step_end e = rw e
 
-  pub step_bad : found_at s at ≡ Bad → read_from s at ≡ none
+  pub step_bad : found_at s at ≡ bad → read_from s at ≡ None
   unfolding read_from fields_at
   step_bad e = rw e

@@ -8,7 +8,7 @@ use mathlib.Core.Logic.{inl, inr}
 use mathlib.Core.List.Memᴰ
 use mathlib.Core.List.{List, [], ◌∷◌, ◌++◌, reverse}
 use mathlib.Core.Bool.{Bool, true, false, cond, not, ◌||◌}
-use mathlib.Core.Option.{Option, some, none}
+use Rattle.std.specs.Prelude.{Option, Some, None}
 use lib.Dec.{leb, eqb}
 use borrow.Author.Tests.{le-leb, leb-true, eq-eqb, ne_eqb, eqb-true, eqb-false, not-true}
 use Rattle.lists.specs.Member.{◌∈◌, Rising}
@@ -190,8 +190,8 @@ module _ (log : List Event) (w : WellFormed log) where
     passes_right b = go (read_order s) refl
       where
         go : (o : Option (List Field)) → read_order s ≡ o → judged wrote (committed log) o ≡ true → RightOrder log s
-        go none e p = false_true p
-        go (some fs) e p =
+        go None e p = false_true p
+        go (Some fs) e p =
             let q = both_true (sound wrote (committed log) 0 fs) _ p in
             let r = written_read s b fs e in
             record {
@@ -208,7 +208,7 @@ module _ (log : List Event) (w : WellFormed log) where
     unfolding right_order right_by
     right_passes r =
         let fs = r.fields in
-        let e : read_order s ≡ some fs = rw r.bytes (read-written fs r.fit r.filled) in
+        let e : read_order s ≡ Some fs = rw r.bytes (read-written fs r.fit r.filled) in
         let item : (x : ℕ) → x ∈ items fs → x ≤ most_item = λ x m.
         (let k = item_version fs 0 r.rise r.filled x m in put_item log w k.0 x ((r.versions x).only k.0 k.1).1) in
         let p = is_sound wrote (committed log) 0 fs r.rise item (λ x. ((r.versions x).once, λ k m. (version_is log x k).1 ((r.versions x).only k m))) in

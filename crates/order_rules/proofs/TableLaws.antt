@@ -5,7 +5,7 @@ use native.Mathlib.Omega.{arith}
 use mathlib.Core.Path.{◌≡◌, refl, ap}
 use mathlib.Core.List.{List, [], ◌∷◌, ◌++◌, reverse}
 use mathlib.Core.Bool.{Bool, true, false, ◌&&◌}
-use mathlib.Core.Option.{Option, some, none}
+use Rattle.std.specs.Prelude.{Option, Some, None}
 use lib.Dec.{leb}
 use borrow.Author.Tests.{leb-true}
 use Rattle.lists.specs.Tests.{any}
@@ -53,8 +53,8 @@ module _ (wr wr' : ℕ → ℕ → ℕ) (same : (t x : ℕ) → x ≤ most_item 
   right_by_same s = go (read_order s)
     where
       go : (o : Option (List Field)) → judged wr nodes o ≡ judged wr' nodes o
-      go none = refl
-      go (some fs) = rw (sound_same 0 fs, left_same (vs_of fs))
+      go None = refl
+      go (Some fs) = rw (sound_same 0 fs, left_same (vs_of fs))
 
   versions_same : (l : List ℕ) (x : ℕ) → x ≤ most_item → versions_by wr l x ≡ versions_by wr' l x
   unfolding versions_by

@@ -2,7 +2,7 @@
 -- relation. A log is its events, first to last.
 -- Assumes nothing.
 use Rattle.std.specs.Prelude.{ℕ, zero, suc, ◌≡◌, List, [], ◌∷◌, ◌++◌, reverse, Bool, true, false, not, ◌&&◌, ◌||◌, leb, eqb}
-use Rattle.std.proofs.Math.Option.{Option, some, none}
+use Rattle.std.specs.Prelude.{Option, Some, None}
 use Rattle.lists.specs.Member.{Rising}
 use Rattle.lists.specs.Tests.{any}
 use Rattle.log_format.specs.Events.{Event}
@@ -48,8 +48,8 @@ module _ (wr : ℕ → ℕ → ℕ) (nodes : List ℕ) where
 
   -- bytes that are no run of fields are not right
   abbrev pub judged : Option (List Field) → Bool
-  judged none = false
-  judged (some fs) = sound 0 fs && not (left_out (vs_of fs))
+  judged None = false
+  judged (Some fs) = sound 0 fs && not (left_out (vs_of fs))
 
   -- whether bytes are a right version order
   unfoldable pub right_by : List ℕ → Bool

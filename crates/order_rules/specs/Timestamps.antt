@@ -1,6 +1,6 @@
 -- The timestamp order of a log: for each item with a committed version a field, its stamps rising.
 -- Assumes nothing.
-use Rattle.std.specs.Prelude.{ℕ, zero, suc, ◌≡◌, List, [], ◌∷◌, reverse, cond, leb, length}
+use Rattle.std.specs.Prelude.{ℕ, zero, suc, ◌≡◌, List, [], ◌∷◌, reverse, cond, leb, length, Result, Ok, Err}
 use Rattle.lists.specs.Member.{Rising}
 use Rattle.log_format.specs.Bytes.{splice}
 use Rattle.log_format.specs.Events.{Event}
@@ -8,8 +8,7 @@ use Rattle.history_rules.specs.Faults.{written, differ}
 use Rattle.serial_theory.specs.Judged.{committed}
 use Rattle.order_rules.specs.Fields.{Field, field, order_of, vs_of}
 use Rattle.order_rules.specs.Right.{all_items}
-use Rattle.order_rules.specs.declared.Written.{Written}
-use Rattle.order_rules.specs.declared.Written.TheVariants.{Bytes, NoRoom}
+use Rattle.order_rules.specs.declared.NoRoom.{NoRoom}
 
 -- a field for x, if it has a version
 abbrev pub with_field : ℕ → List ℕ → List Field → List Field
@@ -49,17 +48,17 @@ InStampOrder fs = (x : ℕ) → Rising 0 (vs_of fs x)
 -- ---- what the call answers
 
 -- the page's code for each answer
-abbrev pub written_code : Written → ℕ
-written_code (Bytes n) = 0
-written_code NoRoom = 29
+abbrev pub written_code : Result ℕ NoRoom → ℕ
+written_code (Ok n) = 0
+written_code (Err e) = 29
 
 -- the page's number beside the code
-abbrev pub written_number : Written → ℕ
-written_number (Bytes n) = n
-written_number NoRoom = 0
+abbrev pub written_number : Result ℕ NoRoom → ℕ
+written_number (Ok n) = n
+written_number (Err e) = 0
 
 -- writing an order's bytes e into b answers a and leaves b': 29 if b is too short, and then nothing is written; else the number of bytes, and no
 -- later byte is changed
-pub record Wrote (b e : List ℕ) (a : Written) (b' : List ℕ) : Type 0 where
-  pub answer : a ≡ cond (leb (length e) (length b)) (Bytes (length e)) NoRoom
+pub record Wrote (b e : List ℕ) (a : Result ℕ NoRoom) (b' : List ℕ) : Type 0 where
+  pub answer : a ≡ cond (leb (length e) (length b)) (Ok (length e)) (Err (record {}))
   pub bytes : b' ≡ cond (leb (length e) (length b)) (splice b 0 e) b

@@ -2,17 +2,17 @@
 // no function.
 #![tactic(auto)]
 
-// What stands at a place of a version order: an item and how many stamps follow it, nothing any more, or no field of an order.
-#[derive(Clone, Copy)]
-pub enum Found {
-    Stamps(u8, usize),
-    End,
-    Bad,
+// How a field of a version order begins: its item, and how many stamps follow it.
+#[derive(Clone, Copy, Debug, PartialEq, Eq)]
+pub struct Head {
+    pub item: u8,
+    pub stamps: usize,
 }
 
-// What writing a log's timestamp order answers: the number of bytes written, or code 29.
-#[derive(Clone, Copy)]
-pub enum Written {
-    Bytes(usize),
-    NoRoom,
-}
+// The bytes are no right version order of the log: code 28.
+#[derive(Clone, Copy, Debug, PartialEq, Eq)]
+pub struct BadOrder;
+
+// The buffer is too short: code 29.
+#[derive(Clone, Copy, Debug, PartialEq, Eq)]
+pub struct NoRoom;

@@ -7,18 +7,19 @@ use native.Mathlib.Omega.{arith}
 use mathlib.Core.Path.{◌≡◌, refl, sym, ap, ◌∙◌}
 use mathlib.Core.List.{List, [], ◌∷◌, ◌++◌, append_assoc, append-nil}
 use mathlib.Core.Bool.{Bool, true, false, cond}
-use lib.ListN.{length, take, drop, get_or, length-append, take-append-drop}
-use lib.Seq.{length-take-le, get_or-take, take-suc, drop-cons, drop-length}
-use mir.Val.{bool_byte}
+use lib.ListN.{length, drop, get_or, length-append, take-append-drop}
+use lib.Seq.{drop-cons, drop-length}
 use borrow.Author.Tests.{ne_eqb}
 use Rattle.log_format.specs.Bytes.{bytes4, stamp_bytes, splice}
 use Rattle.log_format.proofs.SpliceLaws.{and_then}
 use Rattle.log_format.proofs.AppendLaws.{length-splice}
 use Rattle.history_rules.specs.Faults.{differ}
+use Rattle.std.specs.Prelude.{filter, count_by}
+use Rattle.std.proofs.lemmas.List.Sums.{length-filter}
 use Rattle.order_rules.specs.Fields.{Field, bytes2, body_of, order_of}
 use Rattle.order_rules.specs.Right.{all_items}
 use Rattle.order_rules.specs.Timestamps.{with_field, fields_up, versions_by, order_by, Wrote}
-use Rattle.order_rules.specs.declared.Written.TheVariants.{Bytes}
+use Rattle.std.specs.Prelude.{Ok}
 use Rattle.order_rules.proofs.UpwardLaws.{field_size, length_with}
 use Rattle.order_rules.proofs.WroteLaws.{room}
 use Rattle.order_writer.specs.Writing.{size_of, stamp_if, field_bytes, Placed}
@@ -83,24 +84,9 @@ pub placed_empty : (b : List ℕ) (at : ℕ) (e : List ℕ) → e ≡ [] → Pla
 unfolding splice
 placed_empty b at e q = record { place = rw (q, add-zero); bytes = sym (rw (q, add-zero, append-nil) (take-append-drop at b)) }
 
--- a flag as a number
-pub flag_few : (b : Bool) → bool_byte b ≤ 1
-flag_few true = omega arith
-flag_few false = omega arith
-
 -- ---- an item's stamps
 
 module _ (wr : ℕ → ℕ → ℕ) (x : ℕ) where
-  versions-append : (l m : List ℕ) → versions_by wr (l ++ m) x ≡ versions_by wr l x ++ versions_by wr m x
-  unfolding versions_by
-  versions-append [] m = refl
-  versions-append (i ∷ l) m = rw (versions-append l m) (go (differ (wr i x) 0))
-    where
-      go : (b : Bool) → cond b (i ∷ (versions_by wr l x ++ versions_by wr m x)) (versions_by wr l x ++ versions_by wr m x)
-          ≡ cond b (i ∷ versions_by wr l x) (versions_by wr l x) ++ versions_by wr m x
-      go true = refl
-      go false = refl
-
   stamps_first : (i : ℕ) (l : List ℕ) → stamp_bytes (versions_by wr (i ∷ l) x) ≡ stamp_if wr x i ++ stamp_bytes (versions_by wr l x)
   unfolding versions_by
   stamps_first i l = go (differ (wr i x) 0)
@@ -109,35 +95,26 @@ module _ (wr : ℕ → ℕ → ℕ) (x : ℕ) where
       go true = refl
       go false = refl
 
-  module _ (nodes : List ℕ) (count : ℕ) (within : count ≤ length nodes) (i : ℕ) (h : i < count) where
-    -- the piece of the next node
-    pub stamps_next : stamp_bytes (versions_by wr (drop i (take count nodes)) x)
-        ≡ stamp_if wr x (get_or nodes i 0) ++ stamp_bytes (versions_by wr (drop (i + 1) (take count nodes)) x)
-    stamps_next =
-        let l : length (take count nodes) ≡ count = length-take-le count nodes within in
-        let z : i + 1 ≡ suc i = omega arith in
-        rw (z, drop-cons (take count nodes) i 0 (omega arith), get_or-take count nodes i 0 h)
-        (stamps_first (get_or nodes i 0) (drop (suc i) (take count nodes)))
-
-    -- one node more: one version more, if it wrote the item
-    pub versions_next : length (versions_by wr (take (i + 1) nodes) x)
-        ≡ length (versions_by wr (take i nodes) x) + bool_byte (differ (wr (get_or nodes i 0) x) 0)
-    unfolding versions_by
-    versions_next =
-        let z : i + 1 ≡ suc i = omega arith in
-        rw (z, take-suc nodes i 0 (omega arith), versions-append (take i nodes) (get_or nodes i 0 ∷ []), length-append)
-        (ap (λ (m : ℕ). length (versions_by wr (take i nodes) x) + m) (go (differ (wr (get_or nodes i 0) x) 0)))
-      where
-        go : (b : Bool) → length (cond b (get_or nodes i 0 ∷ []) []) ≡ bool_byte b
-        go true = refl
-        go false = refl
+  -- the piece of the next node
+  pub stamps_next : (nodes : List ℕ) (i : ℕ) → i < length nodes → stamp_bytes (versions_by wr (drop i nodes) x)
+      ≡ stamp_if wr x (get_or nodes i 0) ++ stamp_bytes (versions_by wr (drop (i + 1) nodes) x)
+  stamps_next nodes i h =
+      let z : i + 1 ≡ suc i = omega arith in
+      rw (z, drop-cons nodes i 0 h) (stamps_first (get_or nodes i 0) (drop (suc i) nodes))
 
   -- no node left
-  pub stamps_none : (nodes : List ℕ) (count : ℕ) → count ≤ length nodes → (i : ℕ) → i ≡ count → stamp_bytes (versions_by wr (drop i (take count nodes)) x) ≡ []
+  pub stamps_none : (nodes : List ℕ) → stamp_bytes (versions_by wr (drop (length nodes) nodes) x) ≡ []
   unfolding versions_by
-  stamps_none nodes count within i e =
-      let l : i ≡ length (take count nodes) = e ∙ sym (length-take-le count nodes within) in
-      rw (l, drop-length)
+  stamps_none nodes = rw drop-length
+
+  filtered : (nodes : List ℕ) → filter (λ (i : ℕ). differ (wr i x) 0) nodes ≡ versions_by wr nodes x
+  unfolding versions_by
+  filtered [] = refl
+  filtered (i ∷ nodes) = rw (← filtered nodes)
+
+  -- the nodes that pass the test are counted
+  pub versions_count : (nodes : List ℕ) → count_by (λ (i : ℕ). differ (wr i x) 0) nodes ≡ length (versions_by wr nodes x)
+  versions_count nodes = sym (length-filter (λ (i : ℕ). differ (wr i x) 0) nodes) ∙ ap length (filtered nodes)
 
 -- a stamp of which the test is known
 module _ (wr : ℕ → ℕ → ℕ) (x k : ℕ) (b : List ℕ) (at : ℕ) where
@@ -230,5 +207,5 @@ unfolding order_by
 order_all wr nodes = refl
 
 -- all of an order is written
-pub wrote_all : (b e : List ℕ) (n : ℕ) → n ≡ length e → length e ≤ length b → (b' : List ℕ) → b' ≡ splice b 0 e → Wrote b e (Bytes n) b'
+pub wrote_all : (b e : List ℕ) (n : ℕ) → n ≡ length e → length e ≤ length b → (b' : List ℕ) → b' ≡ splice b 0 e → Wrote b e (Ok n) b'
 wrote_all b e n q h b' s = rw (q, s) (room b e h)

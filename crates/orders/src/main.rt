@@ -3,15 +3,14 @@
 // buffer that the call leaves; before it, byte i of the buffer is 7 i + 3, mod 256.
 #![tactic(auto)]
 
-use checker_rules::Ordered;
 use std::io;
 use std::io::{BufReader, BufWriter, Read, Write};
 
 fn put<W: Write>(to: &mut W, log: &[u8], out: &mut [u8]) -> io::Result<()> {
     told::fill(out);
     let (code, number) = match checker::write_order(log, out) {
-        Ordered::Bytes(n) => (0, n),
-        Ordered::Refused(code, place) => (code, place.0),
+        Ok(bytes) => (0, bytes),
+        Err(refusal) => (refusal.code(), refusal.number()),
     };
     writeln!(to, "{code} {number} {}", told::hash_of(1, out))?;
     to.flush()

@@ -3,7 +3,6 @@
 // timestamp order to that of the second.
 #![tactic(auto)]
 
-use checker_rules::Ordered;
 use std::alloc::Global;
 use std::io::{BufRead, BufReader, BufWriter, Read, Write};
 use std::rt::Files;
@@ -89,7 +88,7 @@ fn write_file<R: Files + Eprint + AllocGlobal>(rt: &R, path: &str, bytes: &[u8])
 // Writes a log's timestamp order to a file, where the log has one.
 fn write_order<R: Files + Eprint + AllocGlobal>(rt: &R, path: &str, log: &[u8]) -> io::Result<()> {
     let mut order = [0u8; 65792];
-    if let Ordered::Bytes(n) = checker::write_order(log, &mut order) {
+    if let Ok(n) = checker::write_order(log, &mut order) {
         if let Some(order) = order.get(..n) {
             write_file(rt, path, order)?;
         }

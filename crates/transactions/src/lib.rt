@@ -3,192 +3,186 @@
 // its bytes, unless its stamps are chosen so that their keys share one bucket, where a lookup walks all rows.
 #![tactic(auto)]
 
-ghost use Rattle.std.specs.Prelude.{◌≡◌};
+ghost use Rattle.std.specs.Prelude.{◌≡◌, eqb};
 ghost use Rattle.log_format.specs.Events.{begins, reads, writes, commits, event_of};
 ghost use Rattle.history_rules.specs.Faults.{idle, unfit, unread};
 ghost use Rattle.history_rules.specs.Held.{stage_key, item_key, stage_in, written_in};
 ghost use Rattle.index.specs.Index.{table_of, Table, Room};
-ghost use Rattle.transactions.specs.Transactions.{fault_in, Noted};
+ghost use Rattle.transactions.specs.Transactions.{stage_number, told_code, fault_in, Noted};
 
+use history_rules::Fault;
 use log_format::{Record, Stamp};
 use numbers::MAX_ITEM;
 
-// How far a transaction has come, as the map has it; 0 for one that has not begun.
-pub const RUNNING: u64 = 1;
+// How far a transaction has come.
+#[derive(Clone, Copy, Debug, PartialEq, Eq)]
+pub enum Stage {
+    Unbegun,
+    Running,
+    Committed,
+    Aborted,
+}
 
-pub const COMMITTED: u64 = 2;
+// As the map has it, where a key without a row has 0.
+impl From<Stage> for u64 {
+    ghost from_gives = { λ stage n. n ≡ stage_number stage };
 
-pub const ABORTED: u64 = 3;
+    fn from(stage: Stage) -> u64 {
+        match stage {
+            Stage::Unbegun => 0,
+            Stage::Running => 1,
+            Stage::Committed => 2,
+            Stage::Aborted => 3,
+        }
+    }
+}
 
 // ---- what the map says
 
 // Where the map has how far a transaction has come.
-fn stage_key(t: Stamp) -> u64
-    ensures { result ≡ stage_key t.0 }
+fn stage_key(stamp: Stamp) -> u64
+    ensures { result ≡ stage_key stamp.0 }
 {
-    t.0 as u64 * 128 + 64
+    u64::from(stamp.0) * 128 + 64
 }
 
 // Where it has what a transaction wrote to an item.
-fn item_key(t: Stamp, x: u8) -> u64
-    ensures { result ≡ item_key t.0 x }
+fn item_key(stamp: Stamp, item: u8) -> u64
+    ensures { result ≡ item_key stamp.0 item }
 {
-    t.0 as u64 * 128 + x as u64
+    u64::from(stamp.0) * 128 + u64::from(item)
 }
 
-// How far a transaction has come. Nothing changes.
-pub fn stage_of(map: &[u64], t: Stamp) -> u64
+// Whether a transaction has come to a stage and no further. Nothing changes.
+pub fn is_at(map: &[u64], stamp: Stamp, stage: Stage) -> bool
     requires { Table map.now }
-    ensures { result ≡ stage_in (table_of map.now) t.0 }
+    ensures { result ≡ eqb (stage_in (table_of map.now) stamp.0) (stage_number stage) }
 {
-    index::get(map, stage_key(t))
+    index::get(map, stage_key(stamp)) == u64::from(stage)
 }
 
 // One more than the value that a transaction wrote to an item, or 0. Nothing changes.
-pub fn written_of(map: &[u64], t: Stamp, x: u8) -> u64
+pub fn written_of(map: &[u64], stamp: Stamp, item: u8) -> u64
     requires { Table map.now }
-    ensures { result ≡ written_in (table_of map.now) t.0 x }
+    ensures { result ≡ written_in (table_of map.now) stamp.0 item }
 {
-    index::get(map, item_key(t, x))
+    index::get(map, item_key(stamp, item))
 }
 
 // ---- codes 23 to 25
 
 // Whether a stamp is 0, not begun or already ended: 23.
-fn idle_stamp(map: &[u64], t: Stamp) -> bool
+fn is_idle(map: &[u64], stamp: Stamp) -> bool
     requires { Table map.now }
-    ensures { result ≡ idle (stage_in (table_of map.now)) t.0 }
+    ensures { result ≡ idle (stage_in (table_of map.now)) stamp.0 }
 {
-    if t.0 == 0 {
-        return true;
-    }
-    stage_of(map, t) != RUNNING
+    stamp.0 == 0 || !is_at(map, stamp, Stage::Running)
 }
 
-// Whether version j of an item may not be read with the value v: not written with it, or aborted; of version 0, the value is not 0.
-fn unfit_version(map: &[u64], x: u8, j: Stamp, v: u32) -> bool
+// Whether a version of an item may not be read with the value: not written with it, or aborted; of version 0, the value is not 0.
+fn is_unfit(map: &[u64], item: u8, version: Stamp, value: u32) -> bool
     requires { Table map.now }
-    ensures { result ≡ unfit (stage_in (table_of map.now)) (written_in (table_of map.now)) x j.0 v }
+    ensures { result ≡ unfit (stage_in (table_of map.now)) (written_in (table_of map.now)) item version.0 value }
 {
-    if j.0 == 0 {
-        return v != 0;
+    if version.0 == 0 {
+        return value != 0;
     }
-    if written_of(map, j, x) != v as u64 + 1 {
-        return true;
-    }
-    stage_of(map, j) == ABORTED
+    written_of(map, version, item) != u64::from(value) + 1 || is_at(map, version, Stage::Aborted)
 }
 
-// Whether t may not read an item in version j with the value v: the version is unfit, or t has an earlier write of its own. 25.
-fn unread_version(map: &[u64], t: Stamp, x: u8, j: Stamp, v: u32) -> bool
+// Whether the reader may not read an item in a version with the value: it has an earlier write of its own, or the version is unfit. 25.
+fn is_unread(map: &[u64], stamp: Stamp, item: u8, version: Stamp, value: u32) -> bool
     requires { Table map.now }
-    ensures { result ≡ unread (stage_in (table_of map.now)) (written_in (table_of map.now)) t.0 x j.0 v }
+    ensures { result ≡ unread (stage_in (table_of map.now)) (written_in (table_of map.now)) stamp.0 item version.0 value }
 {
-    if j.0 != t.0 {
-        if written_of(map, t, x) != 0 {
-            return true;
-        }
-    }
-    unfit_version(map, x, j, v)
+    (written_of(map, stamp, item) != 0 && version != stamp) || is_unfit(map, item, version, value)
 }
 
-// The code of a begin, or 0: a stamp that is 0 or has begun already.
-fn begin_fault(map: &[u64], t: Stamp) -> u32
+// A begin: its stamp is not 0 and has not begun.
+fn check_begin(map: &[u64], stamp: Stamp) -> Result<(), Fault>
     requires { Table map.now }
-    ensures { result ≡ fault_in (table_of map.now) (begins t.0) }
+    ensures { told_code result ≡ fault_in (table_of map.now) (begins stamp.0) }
 {
-    if t.0 == 0 {
-        return 23;
+    if stamp.0 == 0 || !is_at(map, stamp, Stage::Unbegun) {
+        return Err(Fault::Stamp);
     }
-    if stage_of(map, t) != 0 {
-        return 23;
-    }
-    0
+    Ok(())
 }
 
-// The code of a read, or 0.
-fn read_fault(map: &[u64], t: Stamp, x: u8, j: Stamp, v: u32) -> u32
+// A commit or an abort: its stamp runs.
+fn check_end(map: &[u64], stamp: Stamp) -> Result<(), Fault>
     requires { Table map.now }
-    ensures { result ≡ fault_in (table_of map.now) (reads t.0 x j.0 v) }
+    ensures { told_code result ≡ fault_in (table_of map.now) (commits stamp.0) }
 {
-    if idle_stamp(map, t) {
-        return 23;
+    if is_idle(map, stamp) {
+        return Err(Fault::Stamp);
     }
-    if MAX_ITEM < x {
-        return 24;
-    }
-    if unread_version(map, t, x, j, v) {
-        return 25;
-    }
-    0
+    Ok(())
 }
 
-// The code of a write, or 0: whatever the value.
-fn write_fault(map: &[u64], t: Stamp, x: u8, v: u32) -> u32
+// A read: its stamp runs, then its item is one, then its version may be read.
+fn check_read(map: &[u64], stamp: Stamp, item: u8, version: Stamp, value: u32) -> Result<(), Fault>
     requires { Table map.now }
-    ensures { result ≡ fault_in (table_of map.now) (writes t.0 x v) }
+    ensures { told_code result ≡ fault_in (table_of map.now) (reads stamp.0 item version.0 value) }
 {
-    if idle_stamp(map, t) {
-        return 23;
+    if is_idle(map, stamp) {
+        return Err(Fault::Stamp);
     }
-    if MAX_ITEM < x {
-        return 24;
+    if MAX_ITEM < item {
+        return Err(Fault::Item);
     }
-    if written_of(map, t, x) != 0 {
-        return 24;
+    if is_unread(map, stamp, item, version, value) {
+        return Err(Fault::Version);
     }
-    0
+    Ok(())
 }
 
-// The code of a commit or an abort, or 0.
-fn end_fault(map: &[u64], t: Stamp) -> u32
+// A write, whatever the value: its stamp runs, then its item is one that it has not written.
+fn check_write(map: &[u64], stamp: Stamp, item: u8, value: u32) -> Result<(), Fault>
     requires { Table map.now }
-    ensures { result ≡ fault_in (table_of map.now) (commits t.0) }
+    ensures { told_code result ≡ fault_in (table_of map.now) (writes stamp.0 item value) }
 {
-    if idle_stamp(map, t) {
-        return 23;
+    if is_idle(map, stamp) {
+        return Err(Fault::Stamp);
     }
-    0
+    if MAX_ITEM < item || written_of(map, stamp, item) != 0 {
+        return Err(Fault::Item);
+    }
+    Ok(())
 }
 
-// The code of a record after those noted, lowest first, or 0 for a right one. Nothing changes.
-pub fn fault(map: &[u64], r: Record) -> u32
+// Whether a record is right after those noted, or the first of its faults. Nothing changes.
+pub fn check(map: &[u64], record: Record) -> Result<(), Fault>
     requires { Table map.now }
-    ensures { result ≡ fault_in (table_of map.now) (event_of r) }
+    ensures { told_code result ≡ fault_in (table_of map.now) (event_of «record») }
 {
-    match r {
-        Record::Begin(t) => begin_fault(map, t),
+    match record {
+        Record::Begin(stamp) => check_begin(map, stamp),
         Record::Read {
             stamp,
             item,
             version,
             value,
-        } => read_fault(map, stamp, item, version, value),
-        Record::Write { stamp, item, value } => write_fault(map, stamp, item, value),
-        Record::Commit(t) => end_fault(map, t),
-        Record::Abort { stamp, cause: _ } => end_fault(map, stamp),
+        } => check_read(map, stamp, item, version, value),
+        Record::Write { stamp, item, value } => check_write(map, stamp, item, value),
+        Record::Commit(stamp) | Record::Abort { stamp, .. } => check_end(map, stamp),
     }
 }
 
 // ---- a record noted
 
 // The map with a record noted. A read leaves it as it is.
-pub fn note(map: &mut [u64], r: Record)
+pub fn note(map: &mut [u64], record: Record)
     requires { (Table map.old) × Room 1 map.old }
-    ensures { Noted map.old (event_of r) map.new }
+    ensures { Noted map.old (event_of «record») map.new }
 {
-    match r {
-        Record::Begin(t) => index::push(map, stage_key(t), RUNNING),
-        Record::Read {
-            stamp: _,
-            item: _,
-            version: _,
-            value: _,
-        } => {}
+    match record {
+        Record::Begin(stamp) => index::push(map, stage_key(stamp), Stage::Running.into()),
+        Record::Read { .. } => {}
         Record::Write { stamp, item, value } => {
-            index::push(map, item_key(stamp, item), value as u64 + 1)
+            index::push(map, item_key(stamp, item), u64::from(value) + 1)
         }
-        Record::Commit(t) => index::push(map, stage_key(t), COMMITTED),
-        Record::Abort { stamp, cause: _ } => index::push(map, stage_key(stamp), ABORTED),
+        Record::Commit(stamp) => index::push(map, stage_key(stamp), Stage::Committed.into()),
+        Record::Abort { stamp, .. } => index::push(map, stage_key(stamp), Stage::Aborted.into()),
     }
 }

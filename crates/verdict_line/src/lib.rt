@@ -9,7 +9,8 @@ ghost use Rattle.checker_rules.specs.Answers.{answer_for};
 ghost use Rattle.verdict_format.specs.Lines.{spaced, each_spaced, listed, refusal, verdict_line};
 ghost use Rattle.verdict_line.specs.Told.{line_of, Few};
 
-use checker_rules::Checked;
+use checker_rules::Refusal;
+use graph_theory::Verdict;
 
 // Writes a number after a space at a place where it fits, and answers the place after it.
 fn put_spaced(out: &mut [u8], at: usize, n: u64) -> usize
@@ -54,14 +55,14 @@ fn put_refusal(out: &mut [u8], code: u32, number: usize) -> usize
 }
 
 // Writes the line of a verdict whose stamps stand in an answer, where any such line fits.
-fn put_verdict(out: &mut [u8], c: Checked, answer: &[u8]) -> usize
-    requires { (Few c) × (1024 ≤ length answer.now) × (2825 ≤ length out.old) }
-    ensures { Put out.old 0 (line_of c answer.now) result out.new }
+fn put_verdict(out: &mut [u8], told: Result<Verdict, Refusal>, answer: &[u8]) -> usize
+    requires { (Few told) × (1024 ≤ length answer.now) × (2825 ≤ length out.old) }
+    ensures { Put out.old 0 (line_of told answer.now) result out.new }
 {
-    match c {
-        Checked::Accepted(n) => put_listed(out, b"accepted", answer, n),
-        Checked::Cycle(n) => put_listed(out, b"cycle", answer, n),
-        Checked::Refused(code, place) => put_refusal(out, code, place.0),
+    match told {
+        Ok(Verdict::Accepted(n)) => put_listed(out, b"accepted", answer, n),
+        Ok(Verdict::Cycle(n)) => put_listed(out, b"cycle", answer, n),
+        Err(refusal) => put_refusal(out, refusal.code(), refusal.number()),
     }
 }
 
@@ -71,6 +72,6 @@ pub fn write_verdict(log: &[u8], order: &[u8], out: &mut [u8; 2825]) -> usize
     ensures { Written out.old (verdict_line (answer_for log.now order.now 1024)) result out.new }
 {
     let mut answer = [0u8; 1024];
-    let c = checker::check(log, order, &mut answer);
-    put_verdict(out, c, &answer)
+    let told = checker::check(log, order, &mut answer);
+    put_verdict(out, told, &answer)
 }

@@ -1,23 +1,27 @@
 -- What the parts of the judging of a version order answer and leave. A cell is the place of a node's rank for an item: 64 cells a node.
 -- Assumes nothing.
-use Rattle.std.specs.Prelude.{ℕ, ◌-◌, ◌*◌, ◌/◌, ◌%◌, ◌≤◌, ◌<◌, ◌≡◌, ◌≢◌, List, [], Bool, true, false, cond, not, ◌&&◌, eqb, length, take, get_or, set}
+use mathlib.Core.HLevel.{×_prop, Unit-prop}
+use native.Mathlib.Bridge.{le_prop}
+use Rattle.std.specs.Prelude.{ℕ, suc, ◌-◌, ◌/◌, ◌%◌, ◌≤◌, ◌<◌, ◌≡◌, ◌≢◌, List, [], ◌∷◌, Bool, true, false, cond, ◌&&◌, eqb, length, get_or, set, Result, Ok, Err, ⊤}
 use Rattle.numbers.specs.Numbers.{items}
 use Rattle.lists.specs.Member.{Rising}
 use Rattle.history_rules.specs.WellFormed.{most_item}
 use Rattle.history_rules.specs.Faults.{differ}
-use Rattle.index.specs.Index.{Table}
 use Rattle.order_rules.specs.Fields.{vs_of}
 use Rattle.order_rules.specs.Reading.{fields_of}
-use Rattle.order_rules.specs.Right.{is_version, each_once, some_below, right_by}
+use Rattle.order_rules.specs.Right.{is_version, each_once, right_by}
 use Rattle.order_rules.specs.Ranks.{rank_in, rank_at, Ranks}
-use Rattle.order_rules.specs.declared.Found.{Found}
-use Rattle.order_rules.specs.declared.Found.TheVariants.{Stamps, End, Bad}
+use Rattle.order_rules.specs.declared.BadOrder.{BadOrder}
 
--- the map can be asked, and the first `count` nodes rise
-pub record Ready (m nodes : List ℕ) (count : ℕ) : Type 0 where
-  pub table : Table m
-  pub within : count ≤ length nodes
-  pub rising : Rising 0 (take count nodes)
+-- that stamps rise is a fact, which nothing else hangs on
+pub Rising-prop : (n : ℕ) (l : List ℕ) → IsProp (Rising n l)
+Rising-prop n [] = Unit-prop
+Rising-prop n (k ∷ l) = ×_prop le_prop (Rising-prop (suc k) l)
+
+-- whether an order, or a part of one, is not refused
+abbrev pub passes : Result ⊤ BadOrder → Bool
+passes (Ok u) = true
+passes (Err e) = false
 
 -- no node has a rank for the item
 abbrev pub Clear : List ℕ → ℕ → List ℕ → Type 0
@@ -41,12 +45,6 @@ pub record FieldRanked (wr : ℕ → ℕ → ℕ) (nodes : List ℕ) (x : ℕ) (
 -- a committed version whose cell has no rank
 abbrev pub gap_at : (ℕ → ℕ → ℕ) → List ℕ → List ℕ → ℕ → Bool
 gap_at wr nodes rank q = eqb (get_or rank q 0) 0 && differ (wr (get_or nodes (q / items) 0) (q % items)) 0
-
--- what is answered where no further field stands: at the end, whether there is no such gap
-abbrev pub ended_by : (ℕ → ℕ → ℕ) → List ℕ → List ℕ → ℕ → Found → Bool
-ended_by wr nodes rank count (Stamps x n) = false
-ended_by wr nodes rank count End = not (some_below (gap_at wr nodes rank) (count * items))
-ended_by wr nodes rank count Bad = false
 
 -- the whole order judged: the answer is the test of code 28; if it passes, each cell has its rank
 pub record Ranked (wr : ℕ → ℕ → ℕ) (nodes s : List ℕ) (r : Bool) (rank' : List ℕ) : Type 0 where

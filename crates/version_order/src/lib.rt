@@ -2,205 +2,165 @@
 // leaves each version's rank.
 #![tactic(auto)]
 
-ghost use Rattle.std.specs.Prelude.{◌≡◌, not, ℕ, ◌+◌, ◌-◌, ◌*◌, ◌≤◌, ◌<◌, length, take, get_or};
+ghost use Rattle.std.specs.Prelude.{◌≡◌, not, ℕ, ◌+◌, ◌-◌, ◌*◌, ◌≤◌, ◌<◌, length, get_or};
 ghost use Rattle.numbers.specs.Numbers.{items};
+ghost use Rattle.lists.specs.Member.{Rising};
 ghost use Rattle.history_rules.specs.WellFormed.{most_item};
 ghost use Rattle.history_rules.specs.Faults.{differ};
 ghost use Rattle.history_rules.specs.Held.{written_in};
 ghost use Rattle.index.specs.Index.{table_of, Table};
 ghost use Rattle.order_rules.specs.Reading.{found_at, bodied, stamps_at};
 ghost use Rattle.order_rules.specs.Right.{some_below};
-ghost use Rattle.version_order.specs.Judging.{Ready, Clear, gap_at, ended_by, Noted, FieldRanked, Ranked};
+ghost use Rattle.version_order.specs.Judging.{Rising-prop, passes, Clear, gap_at, Noted, FieldRanked, Ranked};
 
 use log_format::Stamp;
 use log_reader::{be32, body_len};
 use numbers::MAX_ITEM;
-use order_rules::Found;
+use order_rules::{BadOrder, Head};
 
 // The tag of a version order's fields.
 const TAG: u8 = 32;
 
-// A field of a version order: its item, its place, and how many stamps it has.
-#[derive(Clone, Copy)]
-struct Field {
-    item: u8,
-    at: usize,
-    number: usize,
-}
-
 // ---- the bytes
 
-// A field of n body bytes: its item and how many stamps follow it, or no field.
-fn body_at(order: &[u8], at: usize, n: usize) -> Found
-    requires { (at < length order.now) × (n ≤ length order.now - (at + 3)) }
-    ensures { result ≡ bodied order.now at n }
+// How a field with a body of so many bytes begins, or it is no field.
+fn body_at(order: &[u8], at: usize, body: usize) -> Result<Option<Head>, BadOrder>
+    requires { (at < length order.now) × (body ≤ length order.now - (at + 3)) }
+    ensures { result ≡ bodied order.now at body }
 {
-    if n < 5 {
-        return Found::Bad;
+    if body < 5 || body % 4 != 1 {
+        return Err(BadOrder);
     }
-    if n % 4 == 1 {
-        return Found::Stamps(order[at + 3], n / 4);
-    }
-    Found::Bad
+    Ok(Some(Head {
+        item: order[at + 3],
+        stamps: body / 4,
+    }))
 }
 
-// What stands at a place of an order.
-fn found_at(order: &[u8], at: usize) -> Found
+// What stands at a place of an order: how a field begins, or nothing any more.
+fn found_at(order: &[u8], at: usize) -> Result<Option<Head>, BadOrder>
     ensures { result ≡ found_at order.now at }
 {
     if order.len() <= at {
-        return Found::End;
+        return Ok(None);
     }
-    if order[at] == TAG {
-        return body_at(order, at, body_len(order, at));
+    if order[at] != TAG {
+        return Err(BadOrder);
     }
-    Found::Bad
+    body_at(order, at, body_len(order, at))
 }
 
 // ---- what the committed wrote
 
-// Whether the map says that the transaction wrote the item.
-pub fn wrote(map: &[u64], stamp: u32, item: u8) -> bool
-    requires { Table map.now }
-    ensures { result ≡ differ (written_in (table_of map.now) stamp item) 0 }
-{
-    0 < transactions::written_of(map, Stamp(stamp), item)
+// The committed transactions of a log: the map that says what each wrote, and their stamps.
+#[derive(Clone, Copy)]
+pub struct Committed<'a> {
+    pub map: &'a [u64],
+    pub nodes: &'a [u32],
+    ghost table: { Table map.now },
+    ghost rising: { Rising 0 nodes.now } by { Rising-prop 0 nodes.now },
+}
+
+impl Committed<'_> {
+    // Whether the map says that the transaction wrote the item.
+    pub fn wrote(&self, stamp: u32, item: u8) -> bool
+        ensures { result ≡ differ (written_in (table_of self.now.map.now) stamp item) 0 }
+    {
+        transactions::written_of(self.map, Stamp(stamp), item) != 0
+    }
 }
 
 // ---- the ranks
 
-// Notes the stamp as the item's version with this rank. Answers false, and changes nothing, where it is no committed version of the item or has a rank.
+// Notes the stamp as the item's version with this rank. Refused, and nothing changes, where it is no committed version of the item or has a rank.
 fn note(
-    map: &[u64],
-    nodes: &[u32],
-    count: usize,
+    committed: &Committed,
     item: u8,
     stamp: u32,
     place: u16,
     rank: &mut [u16],
-) -> bool
-    requires { (Ready map.now nodes.now count) × (item ≤ most_item) × (count * items ≤ length rank.old) }
-    ensures { Noted (written_in (table_of map.now)) (take count nodes.now) item stamp place rank.old result
+) -> Result<(), BadOrder>
+    requires { (item ≤ most_item) × (length committed.now.nodes.now * items ≤ length rank.old) }
+    ensures { Noted (written_in (table_of committed.now.map.now)) committed.now.nodes.now item stamp place rank.old (passes result)
         rank.new }
 {
-    let Some(p) = sorted::find(&nodes[..count], stamp) else {
-        return false;
+    let Some(node) = sorted::find(committed.nodes, stamp) else {
+        return Err(BadOrder);
     };
-    if wrote(map, stamp, item) {
-        let cell = p * numbers::ITEMS + item as usize;
-        if rank[cell] == 0 {
-            rank[cell] = place;
-            return true;
-        }
-        return false;
+    if !committed.wrote(stamp, item) {
+        return Err(BadOrder);
     }
-    false
+    let cell = node * numbers::ITEMS + usize::from(item);
+    if rank[cell] != 0 {
+        return Err(BadOrder);
+    }
+    rank[cell] = place;
+    Ok(())
 }
 
-// Notes the stamps of a field as its item's versions, oldest first. Answers whether each is a committed version of the item and stands once; then their
-// ranks stand in the item's cells. Other items' cells never change.
+// Notes the stamps of the field at a place as its item's versions, oldest first. Refused unless each is a committed version of the item and stands once;
+// if not, their ranks stand in the item's cells. Other items' cells never change.
 fn note_all(
     order: &[u8],
-    field: Field,
-    map: &[u64],
-    nodes: &[u32],
-    count: usize,
+    at: usize,
+    head: Head,
+    committed: &Committed,
     rank: &mut [u16],
-) -> bool
-    requires { (field.at + 4 + 4 * field.number ≤ length order.now) × (field.number < 16384) × (Ready map.now nodes.now count)
-        × (field.item ≤ most_item) × (count * items ≤ length rank.old) × Clear (take count nodes.now) field.item rank.old }
-    ensures { FieldRanked (written_in (table_of map.now)) (take count nodes.now) field.item
-        (stamps_at order.now (field.at + 4) field.number) rank.old result rank.new }
+) -> Result<(), BadOrder>
+    requires { (at + 4 + 4 * head.stamps ≤ length order.now) × (head.stamps < 16384)
+        × (head.item ≤ most_item) × (length committed.now.nodes.now * items ≤ length rank.old) × Clear committed.now.nodes.now head.item rank.old }
+    ensures { FieldRanked (written_in (table_of committed.now.map.now)) committed.now.nodes.now head.item
+        (stamps_at order.now (at + 4) head.stamps) rank.old (passes result) rank.new }
 {
-    let mut i: usize = 0;
-    while i < field.number {
-        if note(
-            map,
-            nodes,
-            count,
-            field.item,
-            be32(order, field.at + 4 + 4 * i),
-            (i + 1) as u16,
-            rank,
-        ) {
-            i += 1;
-        } else {
-            return false;
-        }
+    for i in 0..head.stamps {
+        let stamp = be32(order, at + 4 + 4 * i);
+        note(committed, head.item, stamp, (i + 1) as u16, rank)?;
     }
-    true
+    Ok(())
 }
 
 // ---- none left out
 
 // Whether the node and item of a cell have a committed version without a rank.
-fn gap(map: &[u64], nodes: &[u32], rank: &[u16], cell: usize) -> bool
-    requires { (Table map.now) × (cell < length nodes.now * items) × (cell < length rank.now) }
-    ensures { result ≡ gap_at (written_in (table_of map.now)) nodes.now rank.now cell }
+fn is_gap(committed: &Committed, rank: &[u16], cell: usize) -> bool
+    requires { (cell < length committed.now.nodes.now * items) × (cell < length rank.now) }
+    ensures { result ≡ gap_at (written_in (table_of committed.now.map.now)) committed.now.nodes.now rank.now cell }
 {
-    if rank[cell] == 0 {
-        return wrote(
-            map,
-            nodes[cell / numbers::ITEMS],
-            (cell % numbers::ITEMS) as u8,
-        );
-    }
-    false
+    let stamp = committed.nodes[cell / numbers::ITEMS];
+    rank[cell] == 0 && committed.wrote(stamp, (cell % numbers::ITEMS) as u8)
 }
 
 // Whether each committed version has a rank.
-fn all_ranked(map: &[u64], nodes: &[u32], count: usize, rank: &[u16]) -> bool
-    requires { (Ready map.now nodes.now count) × (count * items ≤ length rank.now) }
-    ensures { result ≡ not (some_below (gap_at (written_in (table_of map.now)) nodes.now rank.now) (count * items)) }
+fn all_ranked(committed: &Committed, rank: &[u16]) -> bool
+    requires { length committed.now.nodes.now * items ≤ length rank.now }
+    ensures { result ≡ not (some_below (gap_at (written_in (table_of committed.now.map.now)) committed.now.nodes.now rank.now)
+        (length committed.now.nodes.now * items)) }
 {
-    let mut cell: usize = 0;
-    while cell < count * numbers::ITEMS {
-        if gap(map, nodes, rank, cell) {
-            return false;
-        }
-        cell += 1;
-    }
-    true
-}
-
-// What is answered where no further field stands: at the end whether each committed version has a rank, else false.
-fn ended(found: Found, map: &[u64], nodes: &[u32], count: usize, rank: &[u16]) -> bool
-    requires { (Ready map.now nodes.now count) × (count * items ≤ length rank.now) }
-    ensures { result ≡ ended_by (written_in (table_of map.now)) nodes.now rank.now count found }
-{
-    match found {
-        Found::Stamps(_, _) => false,
-        Found::End => all_ranked(map, nodes, count, rank),
-        Found::Bad => false,
-    }
+    !(0..committed.nodes.len() * numbers::ITEMS).any(|cell| is_gap(committed, rank, cell))
 }
 
 // ---- the whole order
 
-// Whether the bytes are a right version order, code 28 where not. If so, each cell has the rank of its node's version of its item, 0 where there is none.
-pub fn ranks(order: &[u8], map: &[u64], nodes: &[u32], count: usize, rank: &mut [u16]) -> bool
-    requires { (Ready map.now nodes.now count) × (count * items ≤ length rank.old) × ((p : ℕ) → p < count * items → get_or rank.old p 0 ≡ 0) }
-    ensures { Ranked (written_in (table_of map.now)) (take count nodes.now) order.now result rank.new }
+// Judges bytes as a version order, code 28 where they are no right one. If they are, each cell has the rank of its node's version of its item, 0 where
+// there is none.
+pub fn ranks(order: &[u8], committed: &Committed, rank: &mut [u16]) -> Result<(), BadOrder>
+    requires { (length committed.now.nodes.now * items ≤ length rank.old)
+        × ((p : ℕ) → p < length committed.now.nodes.now * items → get_or rank.old p 0 ≡ 0) }
+    ensures { Ranked (written_in (table_of committed.now.map.now)) committed.now.nodes.now order.now (passes result) rank.new }
 {
     let mut at: usize = 0;
     let mut least: u8 = 0;
-    loop {
-        let found = found_at(order, at);
-        let Found::Stamps(item, number) = found else {
-            return ended(found, map, nodes, count, rank);
-        };
-        if item < least {
-            return false;
+    while let Some(head) = found_at(order, at)? {
+        if head.item < least || MAX_ITEM < head.item {
+            return Err(BadOrder);
         }
-        if MAX_ITEM < item {
-            return false;
-        }
-        let field = Field { item, at, number };
-        if note_all(order, field, map, nodes, count, rank) {
-            least = item + 1;
-            at = at + 4 + 4 * number;
-        } else {
-            return false;
-        }
+        note_all(order, at, head, committed, rank)?;
+        least = head.item + 1;
+        at += 4 + 4 * head.stamps;
+    }
+    if all_ranked(committed, rank) {
+        Ok(())
+    } else {
+        Err(BadOrder)
     }
 }

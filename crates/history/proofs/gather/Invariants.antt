@@ -4,8 +4,8 @@ use lib.ListN.{length}
 use Rattle.history.proofs.NodesLaws.{Gathering}
 use Rattle.history.proofs.gather.Given as goal
 
-abbrev pub invariant-loop-r : goal.invariant-loop-r
-invariant-loop-r l = Gathering l.log l.fn.nodes l.nodes l.at l.n
+abbrev pub invariant-loop-record : goal.invariant-loop-record
+invariant-loop-record l = Gathering l.log l.fn.nodes l.nodes l.at.0 l.count
 
-abbrev pub decreases-loop-r : goal.decreases-loop-r
-decreases-loop-r l = length l.log - l.at
+abbrev pub decreases-loop-record : goal.decreases-loop-record
+decreases-loop-record l = length l.log - l.at.0

@@ -6,19 +6,19 @@ use borrow.Author.Rules.{rules}
 use Rattle.history.proofs.settle.Goals as goal
 
 pub returns-in_default : goal.returns-in_default
-returns-in_default c = settle_end c.loop-r.invariant c.requires.1.1 (omega arith) (search rules)
+returns-in_default c = settle_end c.loop-record.invariant c.requires.1.1 (omega arith) (search rules)
 
 pub returns-in_default-2 : goal.returns-in_default-2
-returns-in_default-2 c = settle_broken c.loop-r.invariant c.requires.1.1 (omega arith) _ (sym c.decode_at.ensures ∙ c.in_default.is)
+returns-in_default-2 c = settle_broken c.loop-record.invariant c.requires.1.1 (omega arith) _ (sym c.decode_at.ensures ∙ c.in_default.is)
 
 pub returns-then-dangling_read : goal.returns-then-dangling_read
 returns-then-dangling_read c =
-    settle_bad c.loop-r.invariant c.requires.1.1 (omega arith) (λ i. (c.type_inv.log i).fits) (sym (rw c.in-Ok-Some.field-0-is at c.in-Ok-Some.ensures))
+    settle_bad c.loop-record.invariant c.requires.1.1 (omega arith) (λ i. (c.type_inv.log i).fits) (sym (rw c.in-Ok-Some.field-0-is at c.in-Ok-Some.ensures))
     (sym c.dangling_read.ensures ∙ c.if-dangling_read.true)
 
-pub loop-r-smaller : goal.loop-r-smaller
-loop-r-smaller c = omega (arith, progress _ (λ i. (c.type_inv.log i).fits) _ _ _ (sym (rw c.in-Ok-Some.field-0-is at c.in-Ok-Some.ensures)), c.loop-r.invariant.within)
+pub loop-record-smaller : goal.loop-record-smaller
+loop-record-smaller c = omega (arith, progress _ (λ i. (c.type_inv.log i).fits) _ _ _ (sym (rw c.in-Ok-Some.field-0-is at c.in-Ok-Some.ensures)), c.loop-record.invariant.within)
 
-pub loop-r-preserved : goal.loop-r-preserved
-loop-r-preserved c =
-    settle_next c.loop-r.invariant (λ i. (c.type_inv.log i).fits) (sym (rw c.in-Ok-Some.field-0-is at c.in-Ok-Some.ensures)) (sym c.dangling_read.ensures ∙ c.if-dangling_read.false)
+pub loop-record-preserved : goal.loop-record-preserved
+loop-record-preserved c =
+    settle_next c.loop-record.invariant (λ i. (c.type_inv.log i).fits) (sym (rw c.in-Ok-Some.field-0-is at c.in-Ok-Some.ensures)) (sym c.dangling_read.ensures ∙ c.if-dangling_read.false)

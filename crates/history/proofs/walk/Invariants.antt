@@ -5,8 +5,8 @@ use lib.ListN.{length}
 use Rattle.history.proofs.WalkLaws.{Walking}
 use Rattle.history.proofs.walk.Given as goal
 
-abbrev pub invariant-loop-field : goal.invariant-loop-field
-invariant-loop-field l = Walking l.log l.map (length l.fn.map) l.at l.k
+abbrev pub invariant-loop-record : goal.invariant-loop-record
+invariant-loop-record l = Walking l.log l.map (length l.fn.map) l.at.0 l.commits
 
-abbrev pub decreases-loop-field : goal.decreases-loop-field
-decreases-loop-field l = length l.log - l.at
+abbrev pub decreases-loop-record : goal.decreases-loop-record
+decreases-loop-record l = length l.log - l.at.0

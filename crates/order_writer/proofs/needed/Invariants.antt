@@ -1,7 +1,7 @@
--- `order_writer::needed` meets its contract: the loop's invariant is the bytes of the fields of the items so far; the measure is what is left of the items.
+-- `order_writer::needed` meets its contract: the loop's invariant is the bytes of the fields of the items so far.
 use Prim.Native.Nat.{◌-◌, ◌+◌, ◌*◌, ◌≤◌}
 use mathlib.Core.Path.{◌≡◌}
-use lib.ListN.{length, take}
+use lib.ListN.{length}
 use Rattle.order_rules.specs.Fields.{order_of}
 use Rattle.order_rules.specs.Right.{all_items}
 use Rattle.order_rules.specs.Timestamps.{versions_by, fields_up, order_by}
@@ -11,8 +11,5 @@ use Rattle.order_writer.proofs.needed.Given as goal
 
 abbrev pub invariant-loop-item : goal.invariant-loop-item
 invariant-loop-item l =
-    (l.size + length (order_of (fields_up (versions_by (written_in (table_of l.map)) (take l.count l.nodes)) (all_items - l.item) l.item))
-    ≡ length (order_by (written_in (table_of l.map)) (take l.count l.nodes))) × (l.item ≤ all_items) × (l.size ≤ l.item * 1028)
-
-abbrev pub decreases-loop-item : goal.decreases-loop-item
-decreases-loop-item l = all_items - l.item
+    (l.size + length (order_of (fields_up (versions_by (written_in (table_of l.committed.map.now)) l.committed.nodes.now) (all_items - l.item) l.item))
+    ≡ length (order_by (written_in (table_of l.committed.map.now)) l.committed.nodes.now)) × (l.size ≤ l.item * 1028)

@@ -8,4 +8,4 @@ use Rattle.order_writer.proofs.put_if.Goals as goal
 pub returns : goal.returns
 returns c =
     let a = c.args in
-    placed_none (written_in (table_of a.map.now)) a.item a.stamp a.out.now a.at (sym c.wrote.ensures ∙ c.if-wrote.false)
+    placed_none (written_in (table_of a.committed.now.map.now)) a.item a.stamp a.out.now a.at (sym c.wrote.ensures ∙ c.if-wrote.false)

@@ -5,9 +5,9 @@ use Rattle.verdict_line.proofs.write_verdict.Goals as goal
 
 pub put_verdict-requires : goal.put_verdict-requires
 put_verdict-requires c =
-    (told_few (λ i. (c.type_inv.log i).fits) (λ i. (c.type_inv.order i).fits) c.check-c.ensures, search rules, search rules)
+    (told_few (λ i. (c.type_inv.log i).fits) (λ i. (c.type_inv.order i).fits) c.check-told.ensures, search rules, search rules)
 
 pub returns : goal.returns
 returns c =
-    told-written (λ i. (c.type_inv.log i).fits) (λ i. (c.type_inv.order i).fits) c.check-c.ensures _ _ _ c.put_verdict.ensures
+    told-written (λ i. (c.type_inv.log i).fits) (λ i. (c.type_inv.order i).fits) c.check-told.ensures _ _ _ c.put_verdict.ensures
     (search rules)

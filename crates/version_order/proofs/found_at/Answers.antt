@@ -8,12 +8,12 @@ pub returns-then-order-at : goal.returns-then-order-at
 unfolding found_at
 returns-then-order-at c = simp (le-leb _ _ c.if-order-at.true)
 
-pub returns-then-order-at-eq-TAG : goal.returns-then-order-at-eq-TAG
+pub returns-then-order-at-ne-TAG : goal.returns-then-order-at-ne-TAG
 unfolding found_at
-returns-then-order-at-eq-TAG c =
-    simp (lt-leb _ _ c.if-order-at.false, eq-eqb _ _ c.if-order-at-eq-TAG.true)
-    (c.body_at.ensures ∙ ap (bodied c.args.order.now c.args.at) c.body_len.ensures.is)
+returns-then-order-at-ne-TAG c = simp (lt-leb _ _ c.if-order-at.false, ne_eqb _ _ c.if-order-at-ne-TAG.true)
 
 pub returns : goal.returns
 unfolding found_at
-returns c = simp (lt-leb _ _ c.if-order-at.false, ne_eqb _ _ c.if-order-at-eq-TAG.false)
+returns c =
+    simp (lt-leb _ _ c.if-order-at.false, eq-eqb _ _ c.if-order-at-ne-TAG.false)
+    (c.body_at.ensures ∙ ap (bodied c.args.order.now c.args.at) c.body_len.ensures.is)
