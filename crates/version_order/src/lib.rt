@@ -38,6 +38,7 @@ fn body_at(order: &[u8], at: usize, body: usize) -> Result<Option<Head>, BadOrde
 }
 
 // What stands at a place of an order: how a field begins, or nothing any more.
+#[tactic(auto, unfolding(order_rules::specs::Reading::found_at))]
 fn found_at(order: &[u8], at: usize) -> Result<Option<Head>, BadOrder>
     ensures { result ≡ found_at order.now at }
 {
@@ -47,7 +48,8 @@ fn found_at(order: &[u8], at: usize) -> Result<Option<Head>, BadOrder>
     if order[at] != TAG {
         return Err(BadOrder);
     }
-    body_at(order, at, body_len(order, at))
+    let body = body_len(order, at).ok_or(BadOrder)?;
+    body_at(order, at, body)
 }
 
 // ---- what the committed wrote
