@@ -20,7 +20,7 @@ use Rattle.version_columns.specs.Columns.{rows, column, versions_of, columns_of}
 use Rattle.version_columns.specs.declared.Versions.{Versions}
 use Rattle.damage.specs.Damage.{after, row_sound, rows_sound, columns_sound, none_above, marks_sound, Undamaged}
 use Rattle.scheduler_rules.specs.Sound.{Sorted, Proper}
-use Rattle.damage.proofs.PlaceLaws.{places_whole}
+use Rattle.version_columns.proofs.RowLaws.{Wide}
 use Rattle.damage.proofs.RowLaws.{Back, take-rows, rows_back, column_back, length-column, column-take, column-zeros}
 
 -- ---- rows in order
@@ -122,48 +122,43 @@ module _ (last : ℕ) where
 
 -- ---- the columns
 
--- the tests that columns of 1,024 places have passed
-record Passed (a b c d : List ℕ) (n last : ℕ) : Type 0 where
-  within : n ≤ max_versions
-  rows : rows_sound 0 0 last (take n a) (take n b) (take n d) ≡ true
-  items : zeros (drop n a) ≡ true
-  stamps : zeros (drop n b) ≡ true
-  values : zeros (drop n c) ≡ true
-  marks : zeros (drop n d) ≡ true
+-- the tests that columns have passed
+record Passed (t : Versions) (last : ℕ) : Type 0 where
+  within : t.count ≤ max_versions
+  rows : rows_sound 0 0 last (take t.count t.items) (take t.count t.stamps) (take t.count t.marks) ≡ true
+  items : zeros (drop t.count t.items) ≡ true
+  stamps : zeros (drop t.count t.stamps) ≡ true
+  values : zeros (drop t.count t.values) ≡ true
+  marks : zeros (drop t.count t.marks) ≡ true
 
-module _ (a b c d : List ℕ) (n last : ℕ) (wa : length a ≡ max_versions) (wb : length b ≡ max_versions) (wc : length c ≡ max_versions) (wd : length d ≡ max_versions) where
-  passed : columns_sound a b c d n last ≡ true → Passed a b c d n last
+module _ (t : Versions) (last : ℕ) where
+  passed : columns_sound t last ≡ true → Passed t last
   unfolding columns_sound
   passed h =
-      let whole = rw (places_whole max_versions a wa, places_whole max_versions b wb, places_whole max_versions c wc, places_whole max_versions d wd) at h in
-      let p = and_parts (leb n max_versions) _ whole in
-      let qd = and_parts (rows_sound 0 0 last (take n a) (take n b) (take n d) && zeros (drop n a) && zeros (drop n b) && zeros (drop n c)) (zeros (drop n d)) p.1 in
-      let qc = and_parts (rows_sound 0 0 last (take n a) (take n b) (take n d) && zeros (drop n a) && zeros (drop n b)) (zeros (drop n c)) qd.0 in
-      let qb = and_parts (rows_sound 0 0 last (take n a) (take n b) (take n d) && zeros (drop n a)) (zeros (drop n b)) qc.0 in
-      let qa = and_parts (rows_sound 0 0 last (take n a) (take n b) (take n d)) (zeros (drop n a)) qb.0 in
-      record { within = leb-true n max_versions p.0; rows = qa.0; items = qa.1; stamps = qb.1; values = qc.1; marks = qd.1 }
+      let p = and_parts _ _ h in
+      let qd = and_parts _ _ p.1 in
+      let qc = and_parts _ _ qd.0 in
+      let qb = and_parts _ _ qc.0 in
+      let qa = and_parts _ _ qb.0 in
+      record { within = leb-true t.count max_versions p.0; rows = qa.0; items = qa.1; stamps = qb.1; values = qc.1; marks = qd.1 }
 
-  passes : Passed a b c d n last → columns_sound a b c d n last ≡ true
+  passes : Passed t last → columns_sound t last ≡ true
   unfolding columns_sound
-  passes p =
-      rw (places_whole max_versions a wa, places_whole max_versions b wb, places_whole max_versions c wc, places_whole max_versions d wd)
-      (and_both _ _ (le-leb n max_versions p.within) (and_both _ _ (and_both _ _ (and_both _ _ (and_both _ _ p.rows p.items) p.stamps) p.values) p.marks))
+  passes p = and_both _ _ (le-leb t.count max_versions p.within) (and_both _ _ (and_both _ _ (and_both _ _ (and_both _ _ p.rows p.items) p.stamps) p.values) p.marks)
 
 same : (t : Versions) {a b c d : List ℕ} {n : ℕ} → t.items ≡ a → t.stamps ≡ b → t.values ≡ c → t.marks ≡ d → t.count ≡ n
     → t ≡ record { items = a; stamps = b; values = c; marks = d; count = n }
 same t p q r s e = rw (← p, ← q, ← r, ← s, ← e)
 
 -- columns that pass as sound are undamaged
-pub columns_are : (t : Versions) (last : ℕ)
-    → length t.items ≡ max_versions → length t.stamps ≡ max_versions → length t.values ≡ max_versions → length t.marks ≡ max_versions
-    → columns_sound t.items t.stamps t.values t.marks t.count last ≡ true → Undamaged t last
-columns_are t last wa wb wc wd h =
+pub columns_are : (t : Versions) (last : ℕ) → Wide t → columns_sound t last ≡ true → Undamaged t last
+columns_are t last w h =
     let n = t.count in
-    let p : Passed t.items t.stamps t.values t.marks n last = passed _ _ _ _ n last wa wb wc wd h in
-    let la : length (take n t.items) ≡ n = length-take-le n t.items (omega (arith, p.within)) in
-    let lb : length (take n t.stamps) ≡ n = length-take-le n t.stamps (omega (arith, p.within)) in
-    let lc : length (take n t.values) ≡ n = length-take-le n t.values (omega (arith, p.within)) in
-    let ld : length (take n t.marks) ≡ n = length-take-le n t.marks (omega (arith, p.within)) in
+    let p : Passed t last = passed t last h in
+    let la : length (take n t.items) ≡ n = length-take-le n t.items (omega (arith, p.within, w.items)) in
+    let lb : length (take n t.stamps) ≡ n = length-take-le n t.stamps (omega (arith, p.within, w.stamps)) in
+    let lc : length (take n t.values) ≡ n = length-take-le n t.values (omega (arith, p.within, w.values)) in
+    let ld : length (take n t.marks) ≡ n = length-take-le n t.marks (omega (arith, p.within, w.marks)) in
     let l : List Version = rows (take n t.items) (take n t.stamps) (take n t.values) (take n t.marks) in
     let held : versions_of t ≡ l = take-rows n t.items t.stamps t.values t.marks in
     let back : Back (take n t.items) (take n t.stamps) (take n t.values) (take n t.marks) l = rows_back _ _ _ _ (omega arith) (omega arith) (omega arith) in
@@ -171,10 +166,10 @@ columns_are t last wa wb wc wd h =
     let count : n ≡ length l = sym (sym (length-map l (λ (u : Version). u.item)) ∙ ap length back.items ∙ la) in
     record {
       is = rw held (same t
-          (sym (ap column back.items ∙ column_back t.items n wa p.within p.items))
-          (sym (ap column back.stamps ∙ column_back t.stamps n wb p.within p.stamps))
-          (sym (ap column back.values ∙ column_back t.values n wc p.within p.values))
-          (sym (ap column back.marks ∙ column_back t.marks n wd p.within p.marks))
+          (sym (ap column back.items ∙ column_back t.items n w.items p.within p.items))
+          (sym (ap column back.stamps ∙ column_back t.stamps n w.stamps p.within p.stamps))
+          (sym (ap column back.values ∙ column_back t.values n w.values p.within p.values))
+          (sym (ap column back.marks ∙ column_back t.marks n w.marks p.within p.marks))
           count);
       within = p.within;
       sorted = rw held (rows_sorted last 0 0 l sound);
@@ -183,7 +178,7 @@ columns_are t last wa wb wc wd h =
 
 -- sorted versions in bounds, at most 1,024, make columns that pass as sound
 pub columns_made : (l : List Version) (last : ℕ) → length l ≤ max_versions → Sorted l → ((u : Version) → u ∈ l → Proper last u)
-    → columns_sound (columns_of l).items (columns_of l).stamps (columns_of l).values (columns_of l).marks (length l) last ≡ true
+    → columns_sound (columns_of l) last ≡ true
 columns_made l last h s p =
     let n = length l in
     let la : length (item_column l) ≡ n = length-map l (λ (u : Version). u.item) in
@@ -191,12 +186,7 @@ columns_made l last h s p =
     let lc : length (map (λ (u : Version). u.value) l) ≡ n = length-map l (λ (u : Version). u.value) in
     let ld : length (mark_column l) ≡ n = length-map l (λ (u : Version). u.mark) in
     let first : (u : Version) → u ∈ l → After 0 0 u = λ u m. after_none u (dec_lt 0 u.item) (p u m).positive in
-    passes _ _ _ _ n last
-    (length-column (item_column l) (omega arith))
-    (length-column (stamp_column l) (omega arith))
-    (length-column (map (λ (u : Version). u.value) l) (omega arith))
-    (length-column (mark_column l) (omega arith))
-    (record {
+    passes (columns_of l) last (record {
       within = h;
       rows = rw (column-take (item_column l) n la, column-take (stamp_column l) n lb, column-take (mark_column l) n ld) (rows_of last 0 0 l first s p);
       items = column-zeros (item_column l) n la;
@@ -206,12 +196,11 @@ columns_made l last h s p =
     })
 
 -- undamaged columns pass as sound
-pub columns_of_lem : (t : Versions) (last : ℕ) → Undamaged t last → columns_sound t.items t.stamps t.values t.marks t.count last ≡ true
+pub columns_of_lem : (t : Versions) (last : ℕ) → Undamaged t last → columns_sound t last ≡ true
 columns_of_lem t last d =
     let e : t.count ≡ length (versions_of t) = ap (λ (u : Versions). u.count) d.is in
     let h : t.count ≤ max_versions = d.within in
-    subst (λ (u : Versions). columns_sound u.items u.stamps u.values u.marks u.count last ≡ true) (sym d.is)
-    (columns_made (versions_of t) last (omega arith) d.sorted d.proper)
+    subst (λ (u : Versions). columns_sound u last ≡ true) (sym d.is) (columns_made (versions_of t) last (omega arith) d.sorted d.proper)
 
 -- ---- the initial marks
 
@@ -224,10 +213,10 @@ none_of : (last : ℕ) (xs : List ℕ) → ((i : ℕ) → get_or xs i 0 ≤ last
 none_of last [] h = refl
 none_of last (x ∷ xs) h = and_both (leb x last) (none_above last xs) (le-leb x last (h 0)) (none_of last xs (λ i. h (suc i)))
 
-pub marks_are : (marks : List ℕ) (last : ℕ) → length marks ≡ 64 → marks_sound marks last ≡ true → (x : ℕ) → get_or marks x 0 ≤ last
+pub marks_are : (marks : List ℕ) (last : ℕ) → marks_sound marks last ≡ true → (x : ℕ) → get_or marks x 0 ≤ last
 unfolding marks_sound
-marks_are marks last w h = none_is last marks (rw (places_whole 64 marks w) at h)
+marks_are marks last h = none_is last marks h
 
-pub marks_of : (marks : List ℕ) (last : ℕ) → length marks ≡ 64 → ((x : ℕ) → get_or marks x 0 ≤ last) → marks_sound marks last ≡ true
+pub marks_of : (marks : List ℕ) (last : ℕ) → ((x : ℕ) → get_or marks x 0 ≤ last) → marks_sound marks last ≡ true
 unfolding marks_sound
-marks_of marks last w h = rw (places_whole 64 marks w) (none_of last marks h)
+marks_of marks last h = none_of last marks h

@@ -1,4 +1,3 @@
-pub mod PlaceLaws
 pub mod PassLaws
 pub mod RowLaws
 pub mod DamageLaws

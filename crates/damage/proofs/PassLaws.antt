@@ -1,64 +1,33 @@
 -- The definitions of damage, one place at a time: what a turn of each loop adds.
 -- Assumes nothing.
-use Prim.Native.Nat.{ℕ, zero, suc, ◌+◌, ◌≤◌, ◌<◌}
-use mathlib.Core.Path.{◌≡◌, refl}
-use mathlib.Core.Bool.{Bool, true, false, not, ◌&&◌, ◌||◌, and_assoc}
-use mathlib.Core.List.{List}
-use native.Mathlib.Decide.{dec_lt}
-use native.Mathlib.Omega.{arith}
-use borrow.Author.Tests.{eq-eqb, ne_eqb, lt-ltb, le-ltb}
+use Prim.Native.Nat.{ℕ, ◌+◌, ◌≤◌, ◌<◌}
+use mathlib.Core.Path.{◌≡◌, sym, ◌∙◌}
+use mathlib.Core.Bool.{Bool, ◌&&◌, and_assoc, and-true}
+use mathlib.Core.List.{List, [], ◌∷◌}
+use native.Mathlib.Numerals.{add-one}
 use lib.Bits.{bit_or}
-use lib.Dec.{eqb, leb, ltb, eqb-suc-zero, leb-suc-suc, leb-zero}
-use lib.ListN.{drop, get_or}
-use lib.Seq.{slice}
-use mir.Val.{bool_byte}
-use Rattle.scheduler_rules.specs.Model.{max_item}
+use lib.Dec.{eqb, leb}
+use lib.ListN.{length, get_or}
+use lib.Seq.{slice, slice-cons}
+use Rattle.std.specs.List.{fold}
 use Rattle.open_table.specs.Intact.{zeros}
-use Rattle.open_table.proofs.BitLaws.{or_none_lem, byte_none, not_or, not_leb, not_ltb}
 use Rattle.open_table.proofs.ScanLaws.{zeros_or}
-use Rattle.damage.specs.Damage.{places, after, row_sound, rows_sound, none_above}
-use Rattle.damage.proofs.PlaceLaws.{drop_place, slice_place}
+use Rattle.damage.specs.Damage.{row_sound, rows_sound, none_above}
 
--- ---- one row
+-- one row more
+pub rows_next : (a b c : List ℕ) (i t : ℕ) → i < t → t ≤ length a → t ≤ length b → t ≤ length c → (sound : Bool) (w j last : ℕ)
+    → ((sound && row_sound w j last (get_or a i 0) (get_or b i 0) (get_or c i 0))
+    && rows_sound (get_or a i 0) (get_or b i 0) last (slice (i + 1) t a) (slice (i + 1) t b) (slice (i + 1) t c))
+    ≡ (sound && rows_sound w j last (slice i t a) (slice i t b) (slice i t c))
+rows_next a b c i t h p q r sound w j last =
+    rw (slice-cons i t a 0 h p, slice-cons i t b 0 h q, slice-cons i t c 0 h r, add-one i) (and_assoc sound (row_sound w j last (get_or a i 0) (get_or b i 0) (get_or c i 0)) _)
 
-not_and : (a b : Bool) → not (a && b) ≡ (not a || not b)
-not_and true b = refl
-not_and false b = refl
+-- numbers that are or-ed together are 0 where each is
+pub zeros_folded : (some : ℕ) (l : List ℕ) → eqb (fold bit_or some l) 0 ≡ (eqb some 0 && zeros l)
+zeros_folded some [] = sym (and-true (eqb some 0))
+zeros_folded some (x ∷ l) = zeros_folded (bit_or some x) l ∙ zeros_or some x l
 
-not_zero : (k : ℕ) → not (eqb k 0) ≡ ltb 0 k
-not_zero zero = refl
-not_zero (suc k) = rw (eqb-suc-zero k, leb-suc-suc 0 k, leb-zero k)
-
--- a row is after another where it is not before it, and not of the same item with a stamp as small
-not_before : (w j x k : ℕ) → (not (ltb x w) && not (eqb x w && leb k j)) ≡ after w j x k
-not_before w j x k = go (dec_lt w x) (dec_lt x w)
-  where
-    go : Dec (w < x) → Dec (x < w) → (not (ltb x w) && not (eqb x w && leb k j)) ≡ after w j x k
-    go (yes h) d = rw (le-ltb x w (omega arith), ne_eqb x w (λ e. omega arith), lt-ltb w x h)
-    go (no n) (yes h) = rw (lt-ltb x w h, le-ltb w x (omega arith), ne_eqb w x (λ e. omega arith))
-    go (no n) (no m) = rw (le-ltb x w (omega arith), le-ltb w x (omega arith), eq-eqb x w (omega arith), eq-eqb w x (omega arith), not_leb k j)
-
-pub bad_none : (w j x k m last : ℕ)
-    → eqb (bool_byte (ltb max_item x || eqb k 0 || ltb last k || ltb last m || ltb x w || (eqb x w && leb k j))) 0 ≡ row_sound w j last x k m
-bad_none w j x k m last =
-    rw (byte_none, not_or, not_or, not_or, not_or, not_or, not_ltb max_item x, not_zero k, not_ltb last k, not_ltb last m, ← not_before w j x k)
-    (and_assoc (leb x max_item && ltb 0 k && leb k last && leb m last) (not (ltb x w)) (not (eqb x w && leb k j)))
-
--- ---- one turn
-
-module _ (n : ℕ) where
-  pub rows_next : (a b c : List ℕ) (i t : ℕ) → i < t → t ≤ n → (bad r w j last : ℕ)
-      → eqb r 0 ≡ row_sound w j last (get_or a i 0) (get_or b i 0) (get_or c i 0)
-      → (eqb (bit_or bad r) 0 && rows_sound (get_or a i 0) (get_or b i 0) last (slice (i + 1) t (places n a)) (slice (i + 1) t (places n b)) (slice (i + 1) t (places n c)))
-      ≡ (eqb bad 0 && rows_sound w j last (slice i t (places n a)) (slice i t (places n b)) (slice i t (places n c)))
-  rows_next a b c i t h k bad r w j last e =
-      rw (slice_place n a i t h k, slice_place n b i t h k, slice_place n c i t h k, or_none_lem, e) (and_assoc (eqb bad 0) _ _)
-
-  pub zeros_next : (a : List ℕ) (some i : ℕ) → i < n
-      → (eqb (bit_or some (get_or a i 0)) 0 && zeros (drop (i + 1) (places n a))) ≡ (eqb some 0 && zeros (drop i (places n a)))
-  zeros_next a some i h = rw (drop_place n a i h) (zeros_or some (get_or a i 0) (drop (i + 1) (places n a)))
-
-  pub none_next : (a : List ℕ) (bad i last : ℕ) → i < n
-      → (eqb (bit_or bad (bool_byte (ltb last (get_or a i 0)))) 0 && none_above last (drop (i + 1) (places n a))) ≡ (eqb bad 0 && none_above last (drop i (places n a)))
-  none_next a bad i last h =
-      rw (drop_place n a i h, or_none_lem, byte_none, not_ltb) (and_assoc (eqb bad 0) (leb (get_or a i 0) last) (none_above last (drop (i + 1) (places n a))))
+-- no mark so far was above, and none in the rest is
+pub none_folded : (sound : Bool) (last : ℕ) (l : List ℕ) → fold (λ (b : Bool) (m : ℕ). b && leb m last) sound l ≡ (sound && none_above last l)
+none_folded sound last [] = sym (and-true sound)
+none_folded sound last (m ∷ l) = none_folded (sound && leb m last) last l ∙ and_assoc sound (leb m last) (none_above last l)

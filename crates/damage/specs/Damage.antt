@@ -1,16 +1,12 @@
 -- When the versions' columns and the initial marks are undamaged.
 -- Assumes nothing.
-use Rattle.std.specs.Prelude.{ℕ, ◌≤◌, ◌≡◌, Bool, true, ◌&&◌, ◌||◌, List, [], ◌∷◌, ◌++◌, eqb, leb, ltb, take, drop, replicate}
+use Rattle.std.specs.Prelude.{ℕ, ◌≤◌, ◌≡◌, Bool, true, ◌&&◌, ◌||◌, List, [], ◌∷◌, eqb, leb, ltb, take, drop}
 use Rattle.lists.specs.Member.{◌∈◌}
 use Rattle.scheduler_rules.specs.Model.{Version, max_item, max_versions}
 use Rattle.scheduler_rules.specs.Sound.{Sorted, Proper}
 use Rattle.open_table.specs.Intact.{zeros}
 use Rattle.version_columns.specs.Columns.{versions_of, columns_of}
 use Rattle.version_columns.specs.declared.Versions.{Versions}
-
--- the numbers at the first n places of a
-unfoldable pub places : ℕ → List ℕ → List ℕ
-places n a = take n (a ++ replicate n 0)
 
 -- whether the row of item x and stamp k comes after that of item w and stamp j
 abbrev pub after : ℕ → ℕ → ℕ → ℕ → Bool
@@ -28,14 +24,14 @@ rows_sound w j last (x ∷ xs) [] ms = true
 rows_sound w j last [] ks ms = true
 
 -- whether the count is within the columns, the rows before it are sound, and every column is zeros past it
-unfoldable pub columns_sound : List ℕ → List ℕ → List ℕ → List ℕ → ℕ → ℕ → Bool
-columns_sound items stamps values marks count last =
-    leb count max_versions
-    && (rows_sound 0 0 last (take count (places max_versions items)) (take count (places max_versions stamps)) (take count (places max_versions marks))
-    && zeros (drop count (places max_versions items))
-    && zeros (drop count (places max_versions stamps))
-    && zeros (drop count (places max_versions values))
-    && zeros (drop count (places max_versions marks)))
+unfoldable pub columns_sound : Versions → ℕ → Bool
+columns_sound t last =
+    leb t.count max_versions
+    && (rows_sound 0 0 last (take t.count t.items) (take t.count t.stamps) (take t.count t.marks)
+    && zeros (drop t.count t.items)
+    && zeros (drop t.count t.stamps)
+    && zeros (drop t.count t.values)
+    && zeros (drop t.count t.marks))
 
 -- whether none of xs is above last
 abbrev pub none_above : ℕ → List ℕ → Bool
@@ -44,7 +40,7 @@ none_above last (x ∷ xs) = leb x last && none_above last xs
 
 -- whether no initial mark is above last
 unfoldable pub marks_sound : List ℕ → ℕ → Bool
-marks_sound marks last = none_above last (places 64 marks)
+marks_sound marks last = none_above last marks
 
 -- ---- the same in plain words
 

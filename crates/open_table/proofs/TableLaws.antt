@@ -79,8 +79,8 @@ close_short k (x ∷ l) = ite_by (λ (r : List ℕ). length r ≤ suc (length l)
     (λ n. let h : length (close k l) ≤ length l = close_short k l in omega arith)
     (λ n. let h : length (close k l) ≤ length l = close_short k l in omega arith)
 
--- what is kept of the first i of 32 places leaves room for one more
-pub kept_room : (k : ℕ) (l : List Stamp) (i : ℕ) (u : OpenTable) → i < max_open → length l ≡ max_open → u ≡ table_of (close k (map number (take i l)))
+-- what is kept of the first i of at most 32 places leaves room for one more
+pub kept_room : (k : ℕ) (l : List Stamp) (i : ℕ) (u : OpenTable) → i < length l → length l ≤ max_open → u ≡ table_of (close k (map number (take i l)))
     → Padded u × (u.count < max_open)
 kept_room k l i u h w e =
     let ks = close k (map number (take i l)) in

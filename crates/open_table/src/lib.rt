@@ -1,14 +1,14 @@
 // The open transactions: a fixed table of 32 stamps with its count.
 #![tactic(auto)]
 
-ghost use Rattle.std.specs.Prelude.{◌<◌, ◌≤◌, min, ◌≡◌, [], ◌∷◌, ◌++◌, map, eqb, drop};
+ghost use Rattle.std.specs.Prelude.{◌<◌, ◌≤◌, min, ◌≡◌, [], ◌∷◌, ◌++◌, map, drop};
 ghost use Rattle.scheduler_rules.specs.Model.{max_open, close};
 ghost use Rattle.open_table.specs.Open.{number, stamps_of, table_of, Padded, holds};
 ghost use Rattle.open_table.specs.Intact.{in_place, rises, zeros, is_intact};
 
 use log_format::Stamp;
 
-#[derive(Clone, Copy)]
+#[derive(Clone, Copy, Debug, PartialEq, Eq)]
 pub struct OpenTable {
     pub stamps: [Stamp; 32],
     pub count: usize,
@@ -22,114 +22,80 @@ impl OpenTable {
     pub fn empty() -> Self
         ensures { result ≡ table_of [] }
     {
-        let none = Stamp(0);
         OpenTable {
-            stamps: [none; 32],
+            stamps: [Stamp(0); 32],
             count: 0,
         }
     }
-}
 
-// How many places are taken where the count is this: all 32 where it passes them.
-fn taken(count: usize) -> usize
-    ensures { result ≡ min count max_open }
-{
-    if OpenTable::MOST < count {
-        OpenTable::MOST
-    } else {
-        count
+    // How many places are taken: all 32 where the count passes them.
+    fn taken(&self) -> usize
+        ensures { result ≡ min self.now.count max_open }
+    {
+        self.count.min(OpenTable::MOST)
     }
-}
 
-// Whether the table holds the stamp.
-pub fn has(t: OpenTable, k: Stamp) -> bool
-    ensures { result ≡ holds k.0 (stamps_of t) }
-{
-    let n = taken(t.count);
-    let mut i: usize = 0;
-    while i < n {
-        if t.stamps[i].0 == k.0 {
-            return true;
+    // Whether the table holds the stamp.
+    pub fn has(&self, k: Stamp) -> bool
+        ensures { result ≡ holds k.0 (stamps_of self.now) }
+    {
+        self.stamps[..self.taken()].contains(&k)
+    }
+
+    // The table with the stamp after the others.
+    pub fn insert(mut self, k: Stamp) -> Self
+        requires fact_1 { Padded self }
+        requires fact_2 { self.count < max_open }
+        ensures { result ≡ table_of (stamps_of self ++ k.0 ∷ []) }
+    {
+        self.stamps[self.count] = k;
+        self.count += 1;
+        self
+    }
+
+    // The table without the stamp: what stood after it moves down, and the freed places are zeros.
+    pub fn remove(self, k: Stamp) -> Self
+        ensures { result ≡ table_of (close k.0 (stamps_of self)) }
+    {
+        let mut kept = OpenTable::empty();
+        for &s in &self.stamps[..self.taken()] {
+            if s != k {
+                kept = kept.insert(s);
+            }
         }
-        i += 1;
+        kept
     }
-    false
-}
 
-// The table with the stamp after the others.
-pub fn insert(t: OpenTable, k: Stamp) -> OpenTable
-    requires fact_1 { Padded t }
-    requires fact_2 { t.count < max_open }
-    ensures { result ≡ table_of (stamps_of t ++ k.0 ∷ []) }
-{
-    let mut u = t;
-    u.count = t.count + 1;
-    let at = t.count;
-    u.stamps[at] = k;
-    u
-}
-
-// The table without the stamp: what stood after it moves down, and the freed places are zeros.
-pub fn remove(t: OpenTable, k: Stamp) -> OpenTable
-    ensures { result ≡ table_of (close k.0 (stamps_of t)) }
-{
-    let n = taken(t.count);
-    let mut u = OpenTable::empty();
-    let mut i: usize = 0;
-    while i < n {
-        let s = t.stamps[i];
-        if s.0 != k.0 {
-            u = insert(u, s);
+    // Whether the stamps rise from above 0, and none passes the last begun: one look at each, and no early way out.
+    fn is_rising(&self, last: Stamp) -> bool
+        requires { self.now.count ≤ max_open }
+        ensures { result ≡ rises 0 last.0 (stamps_of self.now) }
+    {
+        let mut rising = true;
+        let mut before = Stamp(0);
+        for &k in &self.stamps[..self.count] {
+            rising &= (before < k) & (k <= last);
+            before = k;
         }
-        i += 1;
+        rising
     }
-    u
-}
 
-// 1 where a stamp is not above the one before it, or passes the last begun.
-fn misplaced(before: u32, k: u32, last: u32) -> u32
-    ensures { eqb result 0 ≡ in_place before last k }
-{
-    ((k <= before) | (last < k)) as u32
-}
-
-// Whether the stamps rise from above 0, and none passes the last begun.
-fn rising(t: OpenTable, last: Stamp) -> bool
-    requires { t.count ≤ max_open }
-    ensures { result ≡ rises 0 last.0 (stamps_of t) }
-{
-    let n = t.count;
-    let mut bad: u32 = 0;
-    let mut before: u32 = 0;
-    let mut i: usize = 0;
-    while i < n {
-        let k = t.stamps[i].0;
-        bad = bad | misplaced(before, k, last.0);
-        before = k;
-        i += 1;
+    // Whether the places past the count are zeros.
+    fn is_blank(&self) -> bool
+        requires { self.now.count ≤ max_open }
+        ensures { result ≡ zeros (map number (drop self.now.count self.now.stamps)) }
+    {
+        self.stamps[self.count..]
+            .iter()
+            .fold(0, |some, k| some | k.0)
+            == 0
     }
-    bad == 0
-}
 
-// Whether the places past the count are zeros.
-fn blank(t: OpenTable) -> bool
-    ensures { result ≡ zeros (map number (drop t.count t.stamps)) }
-{
-    let mut some: u32 = 0;
-    let mut i: usize = t.count;
-    while i < OpenTable::MOST {
-        some = some | t.stamps[i].0;
-        i += 1;
+    // Whether the table is undamaged, where `last` is the last begun stamp.
+    #[tactic(auto, unfolding(crate::specs::Intact::is_intact))]
+    pub fn is_intact(&self, last: Stamp) -> bool
+        ensures { result ≡ is_intact self.now last.0 }
+    {
+        self.count <= OpenTable::MOST && self.is_rising(last) && self.is_blank()
     }
-    some == 0
-}
-
-// Whether the table is undamaged, where `last` is the last begun stamp.
-pub fn intact(t: OpenTable, last: Stamp) -> bool
-    ensures { result ≡ is_intact t last.0 }
-{
-    if OpenTable::MOST < t.count {
-        return false;
-    }
-    rising(t, last) & blank(t)
 }

@@ -1,50 +1,53 @@
 -- What a lookup over ready columns answers: the row before the place if it is of the item, else the initial version.
 -- Assumes nothing.
 use mathlib.Core.Path.{◌≡◌, refl, sym, ap, ◌∙◌}
-use mathlib.Core.Bool.{true, false, true≢false, false≢true}
 use mathlib.Core.Logic.{◌≢◌}
 use mathlib.Core.List.{List}
-use Prim.Native.Nat.{ℕ, suc, ◌-◌, ◌≤◌, ◌<◌}
+use Prim.Native.Nat.{ℕ, suc, ◌≤◌, ◌<◌}
 use native.Mathlib.Omega.{arith}
-use lib.ListN.{take, get_or}
+use lib.ListN.{length, get_or}
+use Rattle.std.specs.Prelude.{Some, None}
 use Rattle.scheduler_rules.specs.Model.{Version, below}
-use Rattle.version_columns.specs.Columns.{rows}
-use Rattle.version_columns.specs.Lookup.{up_to, Placed, Ready, initial_of, Answers}
-use Rattle.version_columns.proofs.BelowLaws.{below-first, below_held, below_other}
-use Rattle.version_columns.proofs.RowLaws.{ready_row, ready_place}
+use Rattle.version_columns.specs.Columns.{versions_of}
+use Rattle.version_columns.specs.declared.Versions.{Versions}
+use Rattle.version_columns.specs.Lookup.{up_to, Ready, initial_of, Answers}
+use Rattle.version_columns.proofs.BelowLaws.{below-first, below_held, below_other, up_to_within}
+use Rattle.version_columns.proofs.RowLaws.{Wide, version_at, length-versions}
 
-module _ (xs ks vs ms : List ℕ) (n x k first at : ℕ) (r : Ready xs ks vs ms n) (p : Placed xs ks n x k at) where
-  place : at ≡ up_to x k (take n (rows xs ks vs ms))
-  place = p.is ∙ ready_place xs ks vs ms n r x k
+module _ (t : Versions) (w : Wide t) (r : Ready t) (x k first at : ℕ) (place : at ≡ up_to x k (versions_of t)) where
+  within : at ≤ t.count
+  within = omega (arith, place, up_to_within x k (versions_of t), length-versions t w r.within)
 
-  -- a held version is met
-  pub answers_held : 0 < at → get_or xs (at - 1) 0 ≡ x
-      → Answers (take n (rows xs ks vs ms)) x k first
-      (record { at = at; held = true; stamp = record { 0 = get_or ks (at - 1) 0 }; value = get_or vs (at - 1) 0; mark = get_or ms (at - 1) 0 })
-  answers_held h i =
-      let here : up_to x k (take n (rows xs ks vs ms)) ≡ suc (at - 1) = sym place ∙ omega arith in
-      let row = ready_row xs ks vs ms n r (at - 1) (initial_of x first) (omega (arith, p.within)) in
-      let met : below x (suc k) (initial_of x first) (take n (rows xs ks vs ms)) ≡ get_or (take n (rows xs ks vs ms)) (at - 1) (initial_of x first) =
-      below_held x k (initial_of x first) (initial_of x first) (take n (rows xs ks vs ms)) (at - 1) r.sorted refl here (ap (λ (u : Version). u.item) row ∙ i) in
-      record {
-        version = met ∙ row ∙ ap (λ (y : ℕ). record { item = y; stamp = get_or ks (at - 1) 0; value = get_or vs (at - 1) 0; mark = get_or ms (at - 1) 0 }) i;
-        at = place;
-        held = λ t. (h, sym met);
-        none = λ f. absurd (true≢false f);
-      }
+  module _ (b : ℕ) (e : at ≡ suc b) where
+    here : up_to x k (versions_of t) ≡ suc b
+    here = sym place ∙ e
+
+    row : get_or (versions_of t) b (initial_of x first) ≡ record { item = get_or t.items b 0; stamp = get_or t.stamps b 0; value = get_or t.values b 0; mark = get_or t.marks b 0 }
+    row = version_at t w r.within b (initial_of x first) (omega (arith, within))
+
+    -- a held version is met
+    pub answers_held : get_or t.items b 0 ≡ x
+        → Answers (versions_of t) x k first
+        (record { at = at; held = Some b; stamp = record { 0 = get_or t.stamps b 0 }; value = get_or t.values b 0; mark = get_or t.marks b 0 })
+    answers_held i =
+        let met : below x (suc k) (initial_of x first) (versions_of t) ≡ get_or (versions_of t) b (initial_of x first) =
+        below_held x k (initial_of x first) (initial_of x first) (versions_of t) b r.sorted refl here (ap (λ (u : Version). u.item) row ∙ i) in
+        record {
+          version = met ∙ row ∙ ap (λ (y : ℕ). record { item = y; stamp = get_or t.stamps b 0; value = get_or t.values b 0; mark = get_or t.marks b 0 }) i;
+          at = place;
+          held = λ c q. (let same : b ≡ c = cc in (rw (← same) e, rw (← same) (sym met)));
+          none = λ q. cc;
+        }
 
   -- none is
-  answers_none : below x (suc k) (initial_of x first) (take n (rows xs ks vs ms)) ≡ initial_of x first
-      → Answers (take n (rows xs ks vs ms)) x k first (record { at = at; held = false; stamp = record { 0 = 0 }; value = 0; mark = first })
-  answers_none met = record { version = met; at = place; held = λ t. absurd (false≢true t); none = λ f. met }
+  answers_none : below x (suc k) (initial_of x first) (versions_of t) ≡ initial_of x first
+      → Answers (versions_of t) x k first (record { at = at; held = None; stamp = record { 0 = 0 }; value = 0; mark = first })
+  answers_none met = record { version = met; at = place; held = λ c q. cc; none = λ q. met }
 
-  pub answers_other : 0 < at → get_or xs (at - 1) 0 ≢ x
-      → Answers (take n (rows xs ks vs ms)) x k first (record { at = at; held = false; stamp = record { 0 = 0 }; value = 0; mark = first })
-  answers_other h i =
-      let here : up_to x k (take n (rows xs ks vs ms)) ≡ suc (at - 1) = sym place ∙ omega arith in
-      let row = ready_row xs ks vs ms n r (at - 1) (initial_of x first) (omega (arith, p.within)) in
-      answers_none (below_other x k (initial_of x first) (initial_of x first) (take n (rows xs ks vs ms)) (at - 1) r.sorted refl here (λ j. i (sym (ap (λ (u : Version). u.item) row) ∙ j)))
+  pub answers_other : (b : ℕ) → at ≡ suc b → get_or t.items b 0 ≢ x
+      → Answers (versions_of t) x k first (record { at = at; held = None; stamp = record { 0 = 0 }; value = 0; mark = first })
+  answers_other b e i =
+      answers_none (below_other x k (initial_of x first) (initial_of x first) (versions_of t) b r.sorted refl (here b e) (λ j. i (sym (ap (λ (u : Version). u.item) (row b e)) ∙ j)))
 
-  pub answers_first : at ≤ 0
-      → Answers (take n (rows xs ks vs ms)) x k first (record { at = at; held = false; stamp = record { 0 = 0 }; value = 0; mark = first })
-  answers_first h = answers_none (below-first x k (initial_of x first) (take n (rows xs ks vs ms)) r.sorted (sym place ∙ omega arith))
+  pub answers_first : at ≡ 0 → Answers (versions_of t) x k first (record { at = at; held = None; stamp = record { 0 = 0 }; value = 0; mark = first })
+  answers_first h = answers_none (below-first x k (initial_of x first) (versions_of t) r.sorted (sym place ∙ h))

@@ -8,7 +8,7 @@ use native.Mathlib.Nat.{eq-or-lt_of_le}
 use native.Mathlib.Omega.{arith}
 use lib.ListN.{length, take, get_or}
 use Rattle.lists.proofs.ChoiceLaws.{pick_yes, pick_no}
-use Rattle.version_columns.specs.Lookup.{UpTo, up_to?, up_to_in, RisingRows, Placed}
+use Rattle.version_columns.specs.Lookup.{UpTo, up_to?, up_to_in}
 
 -- a row before one that stands at or before a version stands there too
 pub up_before : (x k y j v i : ℕ) → (y < v) ⊎ ((y ≡ v) × (j < i)) → UpTo x k v i → UpTo x k y j
@@ -16,6 +16,10 @@ up_before x k y j v i (inl l) (inl h) = inl (omega arith)
 up_before x k y j v i (inl l) (inr h) = inl (omega arith)
 up_before x k y j v i (inr e) (inl h) = inl (omega arith)
 up_before x k y j v i (inr e) (inr h) = inr (omega arith, omega arith)
+
+-- the first n rows of two columns rise strictly, by item, then stamp
+abbrev pub RisingRows : List ℕ → List ℕ → ℕ → Type 0
+RisingRows items stamps n = (i j : ℕ) → i < j → j < n → (get_or items i 0 < get_or items j 0) ⊎ ((get_or items i 0 ≡ get_or items j 0) × (get_or stamps i 0 < get_or stamps j 0))
 
 -- row i stands at or before the version of x by k
 abbrev pub UpToAt : List ℕ → List ℕ → ℕ → ℕ → ℕ → Type 0
@@ -77,7 +81,7 @@ counted x k (y ∷ items) (j ∷ stamps) (suc n) (suc r) g h l b a =
     ∙ sym (pick_yes (up_to? x k y j) (suc (up_to_in x k (take n items) (take n stamps))) 0 (b 0 (omega arith)))
 
 pub bracket_end : (items stamps : List ℕ) (n x k lo hi : ℕ) → n ≤ length items → n ≤ length stamps → Bracket items stamps n x k lo hi → hi ≤ lo
-    → Placed items stamps n x k lo
+    → lo ≡ up_to_in x k (take n items) (take n stamps)
 bracket_end items stamps n x k lo hi g h b met =
     let within : lo ≤ n = omega (arith, b.lo_le, b.hi_le) in
-    record { within = within; is = counted x k items stamps n lo g h within b.before (λ l. b.after lo met l) }
+    counted x k items stamps n lo g h within b.before (λ l. b.after lo met l)

@@ -1,10 +1,10 @@
 -- What a lookup's answer tells a read and a write: whether the item is written already, what stands beneath, where a version goes and which mark is raised.
 -- Assumes nothing.
 use mathlib.Core.Path.{◌≡◌, refl, sym, ap, ◌∙◌}
-use mathlib.Core.Bool.{true, false}
+use Rattle.std.specs.Prelude.{Some, None}
 use mathlib.Core.Logic.{◌≢◌}
 use mathlib.Core.List.{List}
-use Prim.Native.Nat.{ℕ, suc, ◌-◌, ◌≤◌, ◌<◌}
+use Prim.Native.Nat.{ℕ, suc, ◌≤◌, ◌<◌}
 use native.Mathlib.Omega.{arith}
 use lib.ListN.{length, get_or}
 use Rattle.lists.specs.Member.{◌∈◌}
@@ -45,20 +45,20 @@ module _ (l : List Version) (x k first : ℕ) (r : Chosen) (a : Answers l x k fi
       rw at (columns_put w l none m)
 
   -- the version met, if it is held, stands just before the place
-  module _ (t : r.held ≡ true) where
-    pub chosen_at : r.at - 1 < length l
-    chosen_at = omega (arith, (a.held t).0, chosen_within)
+  module _ (b : ℕ) (t : r.held ≡ Some b) where
+    pub chosen_at : b < length l
+    chosen_at = omega (arith, (a.held b t).0, chosen_within)
 
-    row : get_or l (r.at - 1) (initial_of x first) ≡ record { item = x; stamp = r.stamp.0; value = r.value; mark = r.mark }
-    row = (a.held t).1 ∙ a.version
+    pub chosen_row : get_or l b (initial_of x first) ≡ record { item = x; stamp = r.stamp.0; value = r.value; mark = r.mark }
+    chosen_row = (a.held b t).1 ∙ a.version
 
-    pub chosen-raise : (m : ℕ) → Sorted l → with_mark (r.at - 1) m (columns_of l) ≡ columns_of (raise x r.stamp.0 m l)
-    chosen-raise m s = columns_raise x r.stamp.0 m (initial_of x first) l (r.at - 1) s chosen_at (ap (λ (u : Version). u.item) row, ap (λ (u : Version). u.stamp) row)
+    pub chosen-raise : (m : ℕ) → Sorted l → with_mark b m (columns_of l) ≡ columns_of (raise x r.stamp.0 m l)
+    chosen-raise m s = columns_raise x r.stamp.0 m (initial_of x first) l b s chosen_at (ap (λ (u : Version). u.item) chosen_row, ap (λ (u : Version). u.stamp) chosen_row)
 
     -- and is not the initial one
     pub chosen_positive : ((u : Version) → u ∈ l → 1 ≤ u.stamp) → 1 ≤ r.stamp.0
-    chosen_positive p = omega (arith, ap (λ (u : Version). u.stamp) row, p (get_or l (r.at - 1) (initial_of x first)) (get_d_in l (r.at - 1) (initial_of x first) chosen_at))
+    chosen_positive p = omega (arith, ap (λ (u : Version). u.stamp) chosen_row, p (get_or l b (initial_of x first)) (get_d_in l b (initial_of x first) chosen_at))
 
   -- else it is the initial one
-  pub chosen-initial : r.held ≡ false → r.stamp.0 ≡ 0
+  pub chosen-initial : r.held ≡ None → r.stamp.0 ≡ 0
   chosen-initial f = sym stamp_met ∙ ap (λ (u : Version). u.stamp) (a.none f)

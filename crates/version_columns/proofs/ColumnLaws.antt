@@ -8,7 +8,10 @@ use native.Mathlib.Decide.{ℕ_discrete}
 use native.Mathlib.Omega.{arith}
 use lib.ListN.{length, take, drop, get_or, replicate, length-append, length-replicate, length-map, length-set, length-drop, replicate-append-replicate, take-append-drop, get_or-append}
 use lib.Seq.{drop-nil, take_at, drop_at, take-append_seam, drop-append-add, set-append_left, length-take-le}
+use Rattle.std.specs.List.{copy_within}
+use Rattle.std.proofs.lemmas.List.{drop-take}
 use Rattle.lists.specs.Choice.{pick, isnt}
+use Rattle.lists.proofs.ShiftLaws.{opened}
 use Rattle.scheduler_rules.specs.Model.{Version, max_versions, without}
 use Rattle.version_columns.specs.Columns.{column, Padded}
 use Rattle.version_columns.specs.Change.{inserted, kept, narrowed, raised_at}
@@ -18,6 +21,15 @@ use Rattle.version_columns.proofs.Narrow.{kept_within}
 
 pub column-size : (xs : List ℕ) → length xs ≤ max_versions → length (column xs) ≡ max_versions
 column-size xs h = simp (length-append, length-replicate) (omega arith)
+
+-- copying one place on opens the place
+pub copied_opened : (l : List ℕ) (at n : ℕ) → at ≤ n → n < length l → copy_within l at n (at + 1) ≡ opened l at n
+copied_opened l at n h g =
+    let end : at + 1 + (n - at) ≡ n + 1 = omega arith in
+    let whole : at + (n - at) ≡ n = omega arith in
+    let part : drop at (take n l) ≡ take (n - at) (drop at l) = rw whole at (drop-take at (n - at) l) in
+    rw (end, part) (append_assoc (take (at + 1) l) (take (n - at) (drop at l)) (drop (n + 1) l))
+
 
 pub column-insert : (xs : List ℕ) (at x : ℕ) → at ≤ length xs → length xs < max_versions
     → inserted at (length xs) x (column xs) ≡ column (take at xs ++ x ∷ drop at xs)

@@ -8,7 +8,13 @@ use native.Mathlib.Numerals.{add-one}
 use native.Mathlib.Omega.{arith}
 use native.Mathlib.Decide.{ℕ_discrete}
 use lib.ListN.{length, take, drop, set, get_or, replicate, length-append, length-replicate, take-append-drop}
-use lib.Seq.{drop-cons, set_at, get_or_at, append_snoc, length-take-le, set-append_seam}
+use lib.Seq.{drop-cons, set_at, get_or_at, append_snoc, length-take-le, get_or-take, set-append_seam}
+use mathlib.Core.Bool.{Bool, true, false, true≢false, not, cond}
+use borrow.Author.Tests.{eq-eqb, ltb-false}
+use lib.Dec.{eqb, ltb}
+use Rattle.std.specs.Prelude.{Some, None, position}
+use Rattle.std.specs.List.{prefix_len}
+use Rattle.std.proofs.lemmas.List.Sums.{prefix_len_passes, prefix_len-le-length}
 use Rattle.lists.specs.Choice.{pick}
 use Rattle.lists.proofs.ChoiceLaws.{pick_yes, pick_no, pick_by}
 use Rattle.version_columns.specs.Change.{kept, narrowed, Without}
@@ -144,3 +150,36 @@ module _ (k : ℕ) (ks a : List ℕ) where
           count = rw (more, length-append) (omega (arith, s.count));
           is = rw (more, add-one i, narrowing_read, wiped, s.count) (turn_store a (kept k (take i ks) (take i a)) i few (omega arith) (get_or a i 0));
         }
+
+-- ---- the first place of a stamp
+
+module _ (k n : ℕ) (ks : List ℕ) (h : n ≤ length ks) where
+  abbrev before : ℕ
+  before = prefix_len (λ (s : ℕ). not (eqb s k)) (take n ks)
+
+  size : length (take n ks) ≡ n
+  size = length-take-le n ks h
+
+  within : before ≤ n
+  within = omega (arith, prefix_len-le-length (λ (s : ℕ). not (eqb s k)) (take n ks), size)
+
+  -- no stamp before it is k
+  none_before : Without k before ks
+  none_before i l e =
+      let other : not (eqb (get_or (take n ks) i 0) k) ≡ true = prefix_len_passes (λ (s : ℕ). not (eqb s k)) (take n ks) i 0 l in
+      let here : get_or (take n ks) i 0 ≡ get_or ks i 0 = get_or-take n ks i 0 (omega (arith, within)) in
+      true≢false (sym other ∙ ap not (eq-eqb _ _ (here ∙ e)))
+
+  pub first_some : (i : ℕ) → position (λ (s : ℕ). eqb s k) (take n ks) ≡ Some i → (i ≤ n) × Without k i ks
+  first_some i = go (ltb before (length (take n ks)))
+    where
+      go : (b : Bool) → cond b (Some before) None ≡ Some i → (i ≤ n) × Without k i ks
+      go true e = let same : before ≡ i = cc in rw (← same) (within, none_before)
+      go false e = cc
+
+  pub first_none : position (λ (s : ℕ). eqb s k) (take n ks) ≡ None → Without k n ks
+  first_none = go (ltb before (length (take n ks))) refl
+    where
+      go : (b : Bool) → ltb before (length (take n ks)) ≡ b → cond b (Some before) None ≡ None → Without k n ks
+      go true e q = cc
+      go false e q = let all : n ≤ before = rw size at (ltb-false _ _ e) in λ i l. none_before i (omega arith)

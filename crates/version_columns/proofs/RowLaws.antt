@@ -6,9 +6,11 @@ use Prim.Native.Nat.{ℕ, zero, suc, ◌≤◌, ◌<◌}
 use native.Mathlib.Omega.{arith}
 use lib.ListN.{length, take, get_or, length-map}
 use lib.Seq.{take_at, get_or-take, length-take-le}
-use Rattle.scheduler_rules.specs.Model.{Version, Before}
+use Rattle.scheduler_rules.specs.Model.{Version, Before, max_versions}
 use Rattle.version_columns.specs.Columns.{rows, versions_of, columns_of}
-use Rattle.version_columns.specs.Lookup.{up_to, up_to_in, RisingRows, Ready}
+use Rattle.version_columns.specs.declared.Versions.{Versions}
+use Rattle.version_columns.specs.Lookup.{up_to, up_to_in, Ready}
+use Rattle.version_columns.proofs.Bracket.{RisingRows}
 use Rattle.scheduler_rules.specs.Sound.{Sorted}
 use Rattle.version_columns.proofs.BelowLaws.{get_d_in}
 
@@ -66,27 +68,37 @@ sorted_at (u ∷ l) i zero d s h g = absurd (omega arith)
 sorted_at (u ∷ l) zero (suc j) d s h g = s.0 (get_or l j d) (get_d_in l j d (omega arith))
 sorted_at (u ∷ l) (suc i) (suc j) d s h g = sorted_at l i j d s.1 (omega arith) (omega arith)
 
-module _ (xs ks vs ms : List ℕ) (n : ℕ) (r : Ready xs ks vs ms n) where
-  full : (m : ℕ) → m ≤ n → Full m xs ks vs ms
-  full m h = record { of_items = omega (arith, r.items_full, r.within); of_stamps = omega (arith, r.stamps_full, r.within); of_values = omega (arith, r.values_full, r.within); of_marks = omega (arith, r.marks_full, r.within) }
+-- the columns have 1,024 places, as their types say
+pub record Wide (t : Versions) : Type 0 where
+  pub items : length t.items ≡ max_versions
+  pub stamps : length t.stamps ≡ max_versions
+  pub values : length t.values ≡ max_versions
+  pub marks : length t.marks ≡ max_versions
 
-  -- the row at a place below the count
-  pub ready_row : (i : ℕ) (d : Version) → i < n → get_or (take n (rows xs ks vs ms)) i d ≡ record { item = get_or xs i 0; stamp = get_or ks i 0; value = get_or vs i 0; mark = get_or ms i 0 }
-  ready_row i d h = get_or-take n (rows xs ks vs ms) i d h ∙ row_at i d xs ks vs ms (full (suc i) (omega arith))
+module _ (t : Versions) (w : Wide t) (h : t.count ≤ max_versions) where
+  full : (m : ℕ) → m ≤ t.count → Full m t.items t.stamps t.values t.marks
+  full m l = record { of_items = omega (arith, w.items); of_stamps = omega (arith, w.stamps); of_values = omega (arith, w.values); of_marks = omega (arith, w.marks) }
+
+  -- the version at a place below the count
+  pub version_at : (i : ℕ) (d : Version) → i < t.count
+      → get_or (versions_of t) i d ≡ record { item = get_or t.items i 0; stamp = get_or t.stamps i 0; value = get_or t.values i 0; mark = get_or t.marks i 0 }
+  version_at i d l = get_or-take t.count (rows t.items t.stamps t.values t.marks) i d l ∙ row_at i d t.items t.stamps t.values t.marks (full (suc i) (omega arith))
 
   -- how many versions there are
-  pub ready_count : length (take n (rows xs ks vs ms)) ≡ n
-  ready_count =
-      sym (length-map (take n (rows xs ks vs ms)) (λ (u : Version). u.item))
-      ∙ ap length (rows-fields n xs ks vs ms (full n (omega arith))).0
-      ∙ length-take-le n xs (full n (omega arith)).of_items
+  pub length-versions : length (versions_of t) ≡ t.count
+  length-versions =
+      sym (length-map (versions_of t) (λ (u : Version). u.item))
+      ∙ ap length (rows-fields t.count t.items t.stamps t.values t.marks (full t.count (omega arith))).0
+      ∙ length-take-le t.count t.items (full t.count (omega arith)).of_items
 
   -- where a version goes, by the two columns or by the versions
-  pub ready_place : (x k : ℕ) → up_to_in x k (take n xs) (take n ks) ≡ up_to x k (take n (rows xs ks vs ms))
-  ready_place x k = let e = rows-fields n xs ks vs ms (full n (omega arith)) in rw (e.0, e.1)
+  pub up_to_columns : (x k : ℕ) → up_to_in x k (take t.count t.items) (take t.count t.stamps) ≡ up_to x k (versions_of t)
+  up_to_columns x k = let e = rows-fields t.count t.items t.stamps t.values t.marks (full t.count (omega arith)) in rw (e.0, e.1)
 
-  pub ready_rising : RisingRows xs ks n
-  ready_rising i j h g =
-      let d : Version = record { item = 0; stamp = 0; value = 0; mark = 0 } in
-      let b : Before (get_or (take n (rows xs ks vs ms)) i d) (get_or (take n (rows xs ks vs ms)) j d) = sorted_at (take n (rows xs ks vs ms)) i j d r.sorted h (rw ready_count g) in
-      rw (ready_row i d (omega arith), ready_row j d g) at b
+-- the rows of columns that are ready for a lookup rise
+pub ready_rising : (t : Versions) → Wide t → Ready t → RisingRows t.items t.stamps t.count
+ready_rising t w r i j h g =
+    let d : Version = record { item = 0; stamp = 0; value = 0; mark = 0 } in
+    let n = length-versions t w r.within in
+    let b : Before (get_or (versions_of t) i d) (get_or (versions_of t) j d) = sorted_at (versions_of t) i j d r.sorted h (rw n g) in
+    rw (version_at t w r.within i d (omega arith), version_at t w r.within j d g) at b

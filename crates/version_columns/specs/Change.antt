@@ -14,12 +14,6 @@ inserted at n x a = take at (take n a) ++ x ∷ drop at (take n a) ++ drop (n + 
 abbrev pub Without : ℕ → ℕ → List ℕ → Type 0
 Without k n ks = (i : ℕ) → i < n → get_or ks i 0 ≢ k
 
--- r is the first place under n at which k stands in ks, or n
-pub record First (k n : ℕ) (ks : List ℕ) (r : ℕ) : Type 0 where
-  pub within : r ≤ n
-  pub before : Without k r ks
-  pub here : r < n → get_or ks r 0 ≡ k
-
 -- the entries of a whose fellows in ks are not k
 unfoldable pub kept : ℕ → List ℕ → List ℕ → List ℕ
 kept k (j ∷ ks) (x ∷ a) = pick (ℕ_discrete j k) (kept k ks a) (x ∷ kept k ks a)

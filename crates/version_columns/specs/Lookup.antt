@@ -1,17 +1,13 @@
 -- What looking up a version answers.
 -- Assumes nothing.
-use Rattle.std.specs.Prelude.{ℕ, suc, ◌-◌, ◌≤◌, ◌<◌, ◌≡◌, Bool, true, false, ◌⊎◌, List, [], ◌∷◌, map, length, take, get_or}
+use Rattle.std.specs.Prelude.{ℕ, suc, ◌≤◌, ◌<◌, ◌≡◌, ◌⊎◌, List, [], ◌∷◌, Some, None, map, get_or}
 use Rattle.std.proofs.Math.Decide.{ℕ_discrete, dec_le, dec_lt}
 use Rattle.lists.specs.Choice.{pick, both, either}
 use Rattle.scheduler_rules.specs.Model.{Version, below, max_versions}
 use Rattle.scheduler_rules.specs.Sound.{Sorted}
-use Rattle.version_columns.specs.Columns.{rows}
+use Rattle.version_columns.specs.Columns.{versions_of}
+use Rattle.version_columns.specs.declared.Versions.{Versions}
 use Rattle.version_columns.specs.declared.Chosen.{Chosen}
-
--- r says whether P holds
-pub record Tells (P : Type 0) (r : Bool) : Type 0 where
-  pub holds : r ≡ true → P
-  pub fails : r ≡ false → ¬ P
 
 -- the version of y by j stands at or before that of x by k: by item, then by stamp
 abbrev pub UpTo : ℕ → ℕ → ℕ → ℕ → Type 0
@@ -30,23 +26,10 @@ up_to_in x k [] js = 0
 abbrev pub up_to : ℕ → ℕ → List Version → ℕ
 up_to x k l = up_to_in x k (map (λ (u : Version). u.item) l) (map (λ (u : Version). u.stamp) l)
 
--- the first n rows of two columns rise strictly, by item, then stamp
-abbrev pub RisingRows : List ℕ → List ℕ → ℕ → Type 0
-RisingRows items stamps n = (i j : ℕ) → i < j → j < n → (get_or items i 0 < get_or items j 0) ⊎ ((get_or items i 0 ≡ get_or items j 0) × (get_or stamps i 0 < get_or stamps j 0))
-
--- r is how many of the first n rows of two columns stand at or before the version of x by k
-pub record Placed (items stamps : List ℕ) (n x k r : ℕ) : Type 0 where
-  pub within : r ≤ n
-  pub is : r ≡ up_to_in x k (take n items) (take n stamps)
-
--- four columns of 1,024 places whose first rows, as many as the count says, are sorted versions
-pub record Ready (items stamps values marks : List ℕ) (count : ℕ) : Type 0 where
-  pub within : count ≤ max_versions
-  pub items_full : length items ≡ max_versions
-  pub stamps_full : length stamps ≡ max_versions
-  pub values_full : length values ≡ max_versions
-  pub marks_full : length marks ≡ max_versions
-  pub sorted : Sorted (take count (rows items stamps values marks))
+-- columns whose count is within them, and whose versions are sorted
+pub record Ready (t : Versions) : Type 0 where
+  pub within : t.count ≤ max_versions
+  pub sorted : Sorted (versions_of t)
 
 -- the initial version of x, with its mark
 abbrev pub initial_of : ℕ → ℕ → Version
@@ -58,6 +41,6 @@ pub record Answers (l : List Version) (x k first : ℕ) (r : Chosen) : Type 0 wh
   -- where the version of x by k goes
   pub at : r.at ≡ up_to x k l
   -- a held one stands just before that place
-  pub held : r.held ≡ true → (0 < r.at) × (get_or l (r.at - 1) (initial_of x first) ≡ below x (suc k) (initial_of x first) l)
+  pub held : (b : ℕ) → r.held ≡ Some b → (r.at ≡ suc b) × (get_or l b (initial_of x first) ≡ below x (suc k) (initial_of x first) l)
   -- else it is the initial one
-  pub none : r.held ≡ false → below x (suc k) (initial_of x first) l ≡ initial_of x first
+  pub none : r.held ≡ None → below x (suc k) (initial_of x first) l ≡ initial_of x first

@@ -1,21 +1,33 @@
-// The versions held, by item, then stamp, as four columns of numbers with their count: a column can be lent and changed in place.
+// The versions held, by item, then stamp, as four columns of numbers with their count: a column is gone through on its own, and changed in place.
 #![tactic(auto)]
 
-ghost use Rattle.std.specs.Prelude.{◌≡◌, [], ◌≤◌, ◌<◌, max, length, take};
+ghost use Rattle.std.specs.Prelude.{◌≡◌, ◌==◌, ◌↔◌, [], ◌≤◌, ◌<◌, IsTrue, take, position};
 ghost use Rattle.scheduler_rules.specs.Model.{max_versions};
-ghost use Rattle.version_columns.specs.Columns.{columns_of, rows};
-ghost use Rattle.version_columns.specs.Change.{inserted, Without, First, Narrowed, raised_at};
-ghost use Rattle.version_columns.specs.Lookup.{Tells, UpTo, RisingRows, Placed, Ready, Answers};
+ghost use Rattle.version_columns.specs.Columns.{columns_of, versions_of};
+ghost use Rattle.version_columns.specs.Change.{inserted, Without, Narrowed, with_version, without_stamp, with_mark};
+ghost use Rattle.version_columns.specs.Lookup.{UpTo, up_to, Ready, Answers};
 
 use log_format::Stamp;
 
-#[derive(Clone, Copy)]
+#[derive(Clone, Copy, Debug, PartialEq, Eq)]
 pub struct Versions {
     pub items: [u32; 1024],
     pub stamps: [u32; 1024],
     pub values: [u32; 1024],
     pub marks: [u32; 1024],
     pub count: usize,
+}
+
+// The version that a lookup met, a held one or the initial one.
+#[derive(Clone, Copy, Debug, PartialEq, Eq)]
+pub struct Chosen {
+    // Where a new version would go.
+    pub at: usize,
+    // Where the held version stands.
+    pub held: Option<usize>,
+    pub stamp: Stamp,
+    pub value: u32,
+    pub mark: u32,
 }
 
 impl Versions {
@@ -26,170 +38,141 @@ impl Versions {
     pub fn empty() -> Self
         ensures { result ≡ columns_of [] }
     {
-        let items = [0u32; 1024];
-        let stamps = [0u32; 1024];
-        let values = [0u32; 1024];
-        let marks = [0u32; 1024];
         Versions {
-            items,
-            stamps,
-            values,
-            marks,
+            items: [0; 1024],
+            stamps: [0; 1024],
+            values: [0; 1024],
+            marks: [0; 1024],
             count: 0,
+        }
+    }
+
+    // Adds a version, not yet read, at its place: what stood there and after it stands one place on.
+    pub fn insert(&mut self, at: usize, item: u32, stamp: Stamp, value: u32)
+        requires { (at ≤ self.old.count) × (self.old.count < max_versions) }
+        ensures { self.new ≡ with_version at (record { item = item; stamp = stamp.0; value = value; mark = 0 }) self.old }
+    {
+        let count = self.count;
+        insert_in(&mut self.items, at, count, item);
+        insert_in(&mut self.stamps, at, count, stamp.0);
+        insert_in(&mut self.values, at, count, value);
+        insert_in(&mut self.marks, at, count, 0);
+        self.count = count + 1;
+    }
+
+    // Takes out the versions of a stamp: the others move up, in order, and zeros follow them.
+    pub fn remove(&mut self, stamp: Stamp)
+        requires { self.old.count ≤ max_versions }
+        ensures { self.new ≡ without_stamp stamp.0 self.old }
+    {
+        let Some(from) = self.first_of(stamp) else {
+            return;
+        };
+        let stamps = self.stamps;
+        let count = self.count;
+        remove_in(&mut self.items, &stamps, from, count, stamp);
+        remove_in(&mut self.values, &stamps, from, count, stamp);
+        remove_in(&mut self.marks, &stamps, from, count, stamp);
+        self.count = remove_in(&mut self.stamps, &stamps, from, count, stamp);
+    }
+
+    // Raises the mark of the version at a place to k, if it is lower.
+    pub fn raise(&mut self, at: usize, k: Stamp)
+        requires { at < max_versions }
+        ensures { self.new ≡ with_mark at k.0 self.old }
+    {
+        self.marks[at] = self.marks[at].max(k.0);
+    }
+
+    // The first place at which a version of the stamp stands.
+    fn first_of(&self, stamp: Stamp) -> Option<usize>
+        requires { self.now.count ≤ max_versions }
+        ensures { result ≡ position (λ s. s == stamp.0) (take self.now.count self.now.stamps) }
+    {
+        self.stamps[..self.count].iter().position(|&s| s == stamp.0)
+    }
+
+    // How many versions stand at or before that of an item by a stamp. A binary search by hand: the library's go over one slice, and a
+    // version stands in two columns.
+    fn place_of(&self, item: u32, stamp: Stamp) -> usize
+        requires { Ready self.now }
+        ensures within { result ≤ self.now.count }
+        ensures is { result ≡ up_to item stamp.0 (versions_of self.now) }
+    {
+        let mut lo = 0;
+        let mut hi = self.count;
+        while lo < hi {
+            let mid = lo + (hi - lo) / 2;
+            if is_up_to(self.items[mid], self.stamps[mid], item, stamp.0) {
+                lo = mid + 1;
+            } else {
+                hi = mid;
+            }
+        }
+        lo
+    }
+
+    // The version of an item with the largest stamp not above `stamp`, or the initial one, whose mark is `first`.
+    pub fn choose(&self, item: u32, stamp: Stamp, first: u32) -> Chosen
+        requires { Ready self.now }
+        ensures { Answers (versions_of self.now) item stamp.0 first result }
+    {
+        let at = self.place_of(item, stamp);
+        match at.checked_sub(1) {
+            Some(b) if self.items[b] == item => Chosen {
+                at,
+                held: Some(b),
+                stamp: Stamp(self.stamps[b]),
+                value: self.values[b],
+                mark: self.marks[b],
+            },
+            _ => Chosen {
+                at,
+                held: None,
+                stamp: Stamp(0),
+                value: 0,
+                mark: first,
+            },
         }
     }
 }
 
 // One column: x stands at `at`, and what stood there and after it, up to the count, stands one place on.
-pub fn column_insert(a: &mut [u32; 1024], at: usize, count: usize, x: u32)
-    requires { (at ≤ count) × (count < max_versions) × (length a.old ≡ max_versions) }
-    ensures { a.new ≡ inserted at count x a.old }
+fn insert_in(column: &mut [u32; 1024], at: usize, count: usize, x: u32)
+    requires { (at ≤ count) × (count < max_versions) }
+    ensures { column.new ≡ inserted at count x column.old }
 {
-    let mut i = count;
-    while at < i {
-        a[i] = a[i - 1];
-        i -= 1;
-    }
-    a[at] = x;
+    column.copy_within(at..count, at + 1);
+    column[at] = x;
 }
 
-// The first place below the count at which a stamp stands, or the count.
-pub fn first_of(stamps: &[u32; 1024], count: usize, stamp: u32) -> usize
-    requires { count ≤ max_versions }
-    ensures { First stamp count stamps.now result }
-{
-    let mut i: usize = 0;
-    while i < count {
-        if stamps[i] == stamp {
-            return i;
-        }
-        i += 1;
-    }
-    i
-}
-
-// One column without the entries of a stamp, of which none stands before `from`: the others move up, in order, and zeros follow them up to the count. Answers how many are left.
-pub fn column_drop<'a, 'b>(
-    a: &'a mut [u32; 1024],
-    stamps: &'b [u32; 1024],
+// One column without the entries of a stamp, of which none stands before `from`: the others move up, in order, and zeros follow them up to the
+// count. Answers how many are left.
+fn remove_in(
+    column: &mut [u32; 1024],
+    stamps: &[u32; 1024],
     from: usize,
     count: usize,
-    stamp: u32,
+    stamp: Stamp,
 ) -> usize
-    requires { (from ≤ count) × (count ≤ max_versions) × Without stamp from stamps.now × (length a.old ≡ max_versions) × (length stamps.now ≡ max_versions) }
-    ensures { Narrowed stamp count stamps.now a.old a.new result }
+    requires { (from ≤ count) × (count ≤ max_versions) × Without stamp.0 from stamps.now }
+    ensures { Narrowed stamp.0 count stamps.now column.old column.new result }
 {
-    let mut left: usize = from;
-    let mut i: usize = from;
-    while i < count {
-        let x = a[i];
-        a[i] = 0;
-        if stamps[i] != stamp {
-            a[left] = x;
+    let mut left = from;
+    for i in from..count {
+        let x = column[i];
+        column[i] = 0;
+        if stamps[i] != stamp.0 {
+            column[left] = x;
             left += 1;
         }
-        i += 1;
     }
     left
 }
 
-// The larger of a mark and a reader's stamp.
-pub fn raised(mark: u32, k: u32) -> u32
-    ensures { result ≡ max mark k }
+// Whether the version of item y by j stands at or before that of x by k.
+fn is_up_to(y: u32, j: u32, x: u32, k: u32) -> bool
+    ensures { IsTrue result ↔ UpTo x k y j }
 {
-    if mark < k { k } else { mark }
-}
-
-// One column with the entry at a place raised to k, if it is lower.
-pub fn raise_at(a: &mut [u32; 1024], at: usize, k: u32)
-    requires { (at < max_versions) × (length a.old ≡ max_versions) }
-    ensures { a.new ≡ raised_at at k a.old }
-{
-    let m = raised(a[at], k);
-    a[at] = m;
-}
-
-// Whether the version of an item by a stamp is at or before that of `item` by `stamp`.
-pub fn up_to(y: u32, j: u32, item: u32, stamp: u32) -> bool
-    ensures { Tells (UpTo item stamp y j) result }
-{
-    if y < item {
-        return true;
-    }
-    if item < y {
-        return false;
-    }
-    j <= stamp
-}
-
-// How many versions stand at or before that of `item` by `stamp`.
-pub fn place_of<'a>(
-    items: &'a [u32; 1024],
-    stamps: &'a [u32; 1024],
-    count: usize,
-    item: u32,
-    stamp: u32,
-) -> usize
-    requires { (count ≤ max_versions) × (length items.now ≡ max_versions) × (length stamps.now ≡ max_versions) × RisingRows items.now stamps.now count }
-    ensures { Placed items.now stamps.now count item stamp result }
-{
-    let mut lo: usize = 0;
-    let mut hi: usize = count;
-    while lo < hi {
-        let mid = lo + (hi - lo) / 2;
-        if up_to(items[mid], stamps[mid], item, stamp) {
-            lo = mid + 1;
-        } else {
-            hi = mid;
-        }
-    }
-    lo
-}
-
-// The version that a lookup met: where a new version would go, whether a held one was met or the initial one, and its stamp, value and mark.
-#[derive(Clone, Copy)]
-pub struct Chosen {
-    pub at: usize,
-    pub held: bool,
-    pub stamp: Stamp,
-    pub value: u32,
-    pub mark: u32,
-}
-
-// The version of an item with the largest stamp not above `stamp`, or the initial one, whose mark is `first`.
-pub fn choose<'a>(
-    items: &'a [u32; 1024],
-    stamps: &'a [u32; 1024],
-    values: &'a [u32; 1024],
-    marks: &'a [u32; 1024],
-    count: usize,
-    item: u32,
-    stamp: Stamp,
-    first: u32,
-) -> Chosen
-    requires { Ready items.now stamps.now values.now marks.now count }
-    ensures { Answers (take count (rows items.now stamps.now values.now marks.now)) item stamp.0 first result }
-{
-    let at = place_of(items, stamps, count, item, stamp.0);
-    if 0 < at {
-        let b = at - 1;
-        if items[b] == item {
-            let found = Stamp(stamps[b]);
-            return Chosen {
-                at,
-                held: true,
-                stamp: found,
-                value: values[b],
-                mark: marks[b],
-            };
-        }
-    }
-    let none = Stamp(0);
-    Chosen {
-        at,
-        held: false,
-        stamp: none,
-        value: 0,
-        mark: first,
-    }
+    (y, j) <= (x, k)
 }

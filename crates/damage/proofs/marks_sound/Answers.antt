@@ -1,24 +1,13 @@
-use Rattle.std.proofs.Common.{◌≤◌, ◌∙◌, refl, length, arith, sym}
-use mathlib.Core.Bool.{and-true}
-use lib.Dec.{eqb}
-use lib.ListN.{drop_of_length-le}
-use Rattle.damage.specs.Damage.{places, marks_sound}
-use Rattle.damage.proofs.PlaceLaws.{length-places}
-use Rattle.damage.proofs.PassLaws.{none_next}
+use Rattle.std.proofs.Common.{◌≡◌, ℕ, Bool, true, ◌&&◌, fold, arith}
+use lib.Dec.{leb}
+use Rattle.std.proofs.lemmas.Grind.{common_steps}
+use Rattle.damage.specs.Damage.{marks_sound}
+use Rattle.damage.proofs.PassLaws.{none_folded}
 use Rattle.damage.proofs.marks_sound.Goals as goal
 
-pub loop-i-init : goal.loop-i-init
-unfolding marks_sound
-loop-i-init c = refl
-
-pub loop-i-preserved : goal.loop-i-preserved
-loop-i-preserved c =
-    let p = c.loop-i in
-    none_next 64 c.args.marks.now p.bad p.i c.args.last (omega arith) ∙ p.invariant
-
 pub returns : goal.returns
+unfolding marks_sound
 returns c =
-    let a = c.args.marks.now in
-    let p = c.loop-i in
-    let end : length (places 64 a) ≤ p.i = rw (length-places 64 a) (omega arith) in
-    sym (and-true (eqb p.bad 0)) ∙ rw (drop_of_length-le (places 64 a) end) at p.invariant
+    let marks = c.args.marks.now in
+    let folded : c.fold.result ≡ fold (λ (b : Bool) (m : ℕ). b && leb m c.args.last.0) true marks = grind (arith, common_steps) in
+    rw folded (none_folded true c.args.last.0 marks)

@@ -1,13 +1,9 @@
-use Rattle.std.proofs.Common.{◌∙◌, arith, rules}
-use Rattle.scheduler_rules.specs.Model.{max_versions}
+use Rattle.std.proofs.Common.{◌∙◌, arith}
 use Rattle.damage.proofs.PassLaws.{rows_next}
 use Rattle.damage.proofs.rows_sound.Goals as goal
 
 pub loop-i-preserved : goal.loop-i-preserved
 loop-i-preserved c =
     let p = c.loop-i in
-    let a = c.args in
-    let r = c.row_bad-bad in
-    let next =
-    rows_next max_versions a.items.now a.stamps.now a.marks.now p.i a.count (omega arith) (omega arith) p.bad r.result p.w p.j a.last r.ensures in
-    (search rules, next ∙ p.invariant.1)
+    let t = c.args.versions.now in
+    rw c.row_sound-sound.ensures (rows_next t.items t.stamps t.marks p.i t.count (omega arith) (omega arith) (omega arith) (omega arith) p.sound p.w p.j c.args.last.0 ∙ p.invariant)

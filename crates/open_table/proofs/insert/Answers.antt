@@ -1,6 +1,0 @@
--- `open_table::insert` meets its contract: one place and the count differ, which is the table of one stamp more.
-use Rattle.open_table.proofs.TableLaws.{insert_padded}
-use Rattle.open_table.proofs.insert.Goals as goal
-
-pub returns : goal.returns
-returns c = insert_padded c.args.t c.args.k c.requires.fact_1 c.requires.fact_2
