@@ -2,10 +2,10 @@
 // are vector code.
 #![tactic(auto)]
 
-ghost use Rattle.std.specs.Prelude.{◌≤◌, ◌≡◌, take, drop};
+ghost use Rattle.std.specs.Prelude.{◌≤◌, ◌≡◌, IsTrue, take, drop};
 ghost use Rattle.scheduler_rules.specs.Model.{max_versions};
 ghost use Rattle.open_table.specs.Intact.{zeros};
-ghost use Rattle.damage.specs.Damage.{row_sound, rows_sound, columns_sound, marks_sound};
+ghost use Rattle.damage.specs.Damage.{row_sound, rows_sound, columns_sound, marks_sound, Undamaged};
 
 use log_format::Stamp;
 use scheduler_rules::Op;
@@ -15,11 +15,7 @@ use version_columns::Versions;
 fn row_sound(w: u32, j: u32, x: u32, k: u32, m: u32, last: u32) -> bool
     ensures { result ≡ row_sound w j last x k m }
 {
-    (x <= Op::MOST_ITEM)
-        & (0 < k)
-        & (k <= last)
-        & (m <= last)
-        & ((w < x) | ((w == x) & (j < k)))
+    (x <= Op::MOST_ITEM) & (0 < k) & (k <= last) & (m <= last) & ((w < x) | ((w == x) & (j < k)))
 }
 
 // Whether the rows before the count are in bounds and rise by item, then stamp.
@@ -49,9 +45,9 @@ fn is_zero_from(column: &[u32; 1024], from: usize) -> bool
 }
 
 // Whether the versions' columns are undamaged, where `last` is the last begun stamp.
-#[tactic(auto, unfolding(crate::specs::Damage::columns_sound))]
 pub fn columns_sound(versions: &Versions, last: Stamp) -> bool
-    ensures { result ≡ columns_sound versions.now last.0 }
+    ensures is { result ≡ columns_sound versions.now last.0 }
+    ensures undamaged { IsTrue result → Undamaged versions.now last.0 }
 {
     let count = versions.count;
     if Versions::MOST < count {
@@ -68,5 +64,7 @@ pub fn columns_sound(versions: &Versions, last: Stamp) -> bool
 pub fn marks_sound(marks: &[u32; 64], last: Stamp) -> bool
     ensures { result ≡ marks_sound marks.now last.0 }
 {
-    marks.iter().fold(true, |sound, &mark| sound & (mark <= last.0))
+    marks
+        .iter()
+        .fold(true, |sound, &mark| sound & (mark <= last.0))
 }

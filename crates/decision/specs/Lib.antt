@@ -1,2 +1,5 @@
+pub mod Kind
+pub mod Refusal
 pub mod Plans
 pub mod Decided
+pub mod Moves

@@ -1,291 +1,352 @@
-// What a call decides before it changes anything: on the small part of the state by value and on lent columns.
+// What a call decides before it changes anything, on the small part of the state by value and on lent marks and versions; and how the small part
+// moves by what is decided.
 #![tactic(auto)]
 
-ghost use Rattle.std.specs.Prelude.{◌≡◌, ◌≤◌, ◌-◌, length, take, get_or};
+ghost use Rattle.std.specs.Prelude.{◌≡◌, ◌≤◌, IsTrue, IfOk, IfErr, get_or};
 ghost use Rattle.scheduler_rules.specs.Model.{max_item};
+ghost use Rattle.scheduler_rules.specs.Table.{Good, most_item, most_value};
 ghost use Rattle.open_table.specs.Open.{stamps_of};
-ghost use Rattle.version_columns.specs.Columns.{rows};
+ghost use Rattle.version_columns.specs.Columns.{versions_of};
 ghost use Rattle.version_columns.specs.Lookup.{Ready, Answers};
-ghost use Rattle.decision.specs.Plans.{answer_plan, no, go, fitting, waits_on, begin_plan, end_plan, read_plan, write_plan, good_op};
-ghost use Rattle.decision.specs.Decided.{Sized, model_of, undamaged_in, CanDecide, Decided, PlanIs};
+ghost use Rattle.decision.specs.declared.Refusal.TheVariants.{Malformed};
+ghost use Rattle.decision.specs.Kind.{number_of};
+ghost use Rattle.decision.specs.Plans.{bytes_of, fitting, opened, begin_plan, end_plan, read_plan, write_plan};
+ghost use Rattle.decision.specs.Decided.{model_of, undamaged_in, Whole, CanDecide, Decided, PlanIs};
+ghost use Rattle.decision.specs.Moves.{Movable, core_after};
 
 use log_format::{Place, Stamp};
 use open_table::OpenTable;
 use scheduler_rules::{Op, Reply};
 use version_columns::{Chosen, Versions};
 
-// The small part of a state: the last begun stamp, the log bytes used, the open transactions.
-#[derive(Clone, Copy)]
+// ---- what is asked
+
+// What an operation asks for. Callers give it as a number, since any number may come; inside it is taken apart once.
+#[derive(Clone, Copy, Debug, PartialEq, Eq)]
+pub enum Kind {
+    Begin,
+    Read,
+    Write,
+    Commit,
+    Abort,
+}
+
+impl TryFrom<u32> for Kind {
+    type Error = Refusal;
+
+    ghost use Rattle.decision.specs.Kind.{IsKind};
+
+    ghost try_from_gives = { IsKind };
+
+    fn try_from(kind: u32) -> Result<Self, Refusal> {
+        match kind {
+            1 => Ok(Kind::Begin),
+            2 => Ok(Kind::Read),
+            3 => Ok(Kind::Write),
+            4 => Ok(Kind::Commit),
+            5 => Ok(Kind::Abort),
+            _ => Err(Refusal::Malformed),
+        }
+    }
+}
+
+impl Kind {
+    // The largest item that an operation of the kind may name; 0 where it has no use for one.
+    #[tactic(auto, unfolding(lists::specs::Choice::pick, lists::specs::Choice::either))]
+    fn most_item(self) -> u32
+        ensures { result ≡ most_item (number_of self) }
+    {
+        match self {
+            Kind::Read | Kind::Write => Op::MOST_ITEM,
+            Kind::Begin | Kind::Commit | Kind::Abort => 0,
+        }
+    }
+
+    // The largest value; 0 where the kind has no use for one.
+    #[tactic(auto, unfolding(lists::specs::Choice::pick))]
+    fn most_value(self) -> u32
+        ensures { result ≡ most_value (number_of self) }
+    {
+        match self {
+            Kind::Write => u32::MAX,
+            Kind::Begin | Kind::Read | Kind::Commit | Kind::Abort => 0,
+        }
+    }
+
+    // What an operation asks for, where it is well-formed.
+    fn of(op: Op) -> Result<Kind, Refusal>
+        ensures ok { IfOk result (λ kind. Good op × (number_of kind ≡ op.kind)) }
+        ensures err { IfErr result (λ e. (e ≡ Malformed) × ¬ Good op) }
+    {
+        let kind = Kind::try_from(op.kind)?;
+        if op.stamp == Stamp(0) || kind.most_item() < op.item || kind.most_value() < op.value {
+            return Err(Refusal::Malformed);
+        }
+        Ok(kind)
+    }
+}
+
+// ---- what is answered
+
+// Why a call changes nothing, in the order of checking.
+#[derive(Clone, Copy, Debug, PartialEq, Eq)]
+pub enum Refusal {
+    // The state is damaged.
+    Damaged,
+    // The operation's numbers are not those of an operation.
+    Malformed,
+    // A begin with a stamp that is not above the last begun one.
+    NotAbove,
+    // As many transactions are open as may be.
+    TooManyOpen,
+    // The transaction is not open.
+    NotOpen,
+    // The version to read is by another open transaction, which has this stamp.
+    Waits(Stamp),
+    // The transaction has written the item.
+    Written,
+    // As many versions are held as may be.
+    TooManyVersions,
+    // The record does not fit the log.
+    NoRoom,
+}
+
+impl From<Refusal> for Reply {
+    ghost use Rattle.decision.specs.Refusal.{reply_of};
+
+    ghost from_gives = { λ e reply. reply ≡ reply_of e };
+
+    fn from(refusal: Refusal) -> Reply {
+        let (code, stamp) = match refusal {
+            Refusal::Damaged => (1, Stamp(0)),
+            Refusal::Malformed => (2, Stamp(0)),
+            Refusal::NotAbove => (3, Stamp(0)),
+            Refusal::TooManyOpen => (4, Stamp(0)),
+            Refusal::NotOpen => (5, Stamp(0)),
+            Refusal::Waits(stamp) => (6, stamp),
+            Refusal::Written => (7, Stamp(0)),
+            Refusal::TooManyVersions => (9, Stamp(0)),
+            Refusal::NoRoom => (10, Stamp(0)),
+        };
+        Reply {
+            code,
+            stamp,
+            value: 0,
+        }
+    }
+}
+
+// The reply of a call that has nothing to tell but that it was done.
+pub const DONE: Reply = Reply {
+    code: 0,
+    stamp: Stamp(0),
+    value: 0,
+};
+
+// The record that a call is to write, and where the version that it reads or writes stands; a read of the initial version has no place.
+#[derive(Clone, Copy, Debug, PartialEq, Eq)]
+pub enum Due {
+    Begin,
+    Read(Option<usize>),
+    Write(usize),
+    Commit,
+    Abort(u8),
+}
+
+impl Due {
+    // The bytes of the record.
+    fn size(self) -> usize
+        ensures { result ≡ bytes_of self }
+    {
+        match self {
+            Due::Begin | Due::Commit => 7,
+            Due::Read(_) => 16,
+            Due::Write(_) => 12,
+            Due::Abort(_) => 8,
+        }
+    }
+}
+
+// What a call answers, and what it is to do.
+#[derive(Clone, Copy, Debug, PartialEq, Eq)]
+pub struct Plan {
+    pub reply: Reply,
+    pub due: Due,
+}
+
+// ---- the small part of a state
+
+// The last begun stamp, the log bytes used, the open transactions.
+#[derive(Clone, Copy, Debug, PartialEq, Eq)]
 pub struct Core {
     pub last: Stamp,
     pub used: Place,
     pub live: OpenTable,
 }
 
-// The record that a call is to write, and where the version that it reads or writes stands.
-#[derive(Clone, Copy)]
-pub enum Due {
-    Nothing,
-    Begin,
-    ReadInitial,
-    Read(usize),
-    Write(usize),
-    Commit,
-    Abort(u8),
-}
-
-// What a call answers, and what it is to do.
-#[derive(Clone, Copy)]
-pub struct Plan {
-    pub reply: Reply,
-    pub due: Due,
-}
-
-// ---- plans
-
-// A code and nothing to do.
-fn refuse(code: u32) -> Plan
-    ensures { result ≡ no code }
-{
-    let none = Stamp(0);
-    let reply = Reply {
-        code,
-        stamp: none,
-        value: 0,
-    };
-    let due = Due::Nothing;
-    Plan { reply, due }
-}
-
-// Code 10 unless n more bytes fit the room after those used.
-fn if_fits(room: usize, used: usize, n: usize, p: Plan) -> Plan
-    requires { (used ≤ 65536) × (n ≤ 16) }
-    ensures { result ≡ fitting room used n p }
-{
-    if room < used + n { refuse(10) } else { p }
-}
-
-// A plan that answers 0, 0, 0.
-fn proceed(due: Due) -> Plan
-    ensures { result ≡ go due }
-{
-    let none = Stamp(0);
-    let reply = Reply {
-        code: 0,
-        stamp: none,
-        value: 0,
-    };
-    Plan { reply, due }
-}
-
-// Begin: 3, 4, 10 or 0.
-fn plan_begin(last: Stamp, count: usize, k: Stamp, used: usize, room: usize) -> Plan
-    requires { used ≤ 65536 }
-    ensures { result ≡ begin_plan last.0 count k.0 used room }
-{
-    if k.0 <= last.0 {
-        return refuse(3);
+impl Core {
+    // The plan with a reply and a record, if the record fits the room after the bytes used.
+    fn plan(self, room: usize, reply: Reply, due: Due) -> Result<Plan, Refusal>
+        requires { self.used.0 ≤ 65536 }
+        ensures { result ≡ fitting room self.used.0 reply due }
+    {
+        if room < self.used.0 + due.size() {
+            return Err(Refusal::NoRoom);
+        }
+        Ok(Plan { reply, due })
     }
-    if OpenTable::MOST <= count {
-        return refuse(4);
-    }
-    if_fits(room, used, 7, proceed(Due::Begin))
-}
 
-// Commit and abort: 10 or 0.
-fn plan_end(kind: u32, used: usize, room: usize) -> Plan
-    requires { used ≤ 65536 }
-    ensures { result ≡ end_plan kind used room }
-{
-    if kind == 4 {
-        return if_fits(room, used, 7, proceed(Due::Commit));
+    // Begin: 3, 4, 10 or 0.
+    fn plan_begin(self, room: usize, k: Stamp) -> Result<Plan, Refusal>
+        requires { self.used.0 ≤ 65536 }
+        ensures { result ≡ begin_plan self.last.0 self.live.count k.0 self.used.0 room }
+    {
+        if k <= self.last {
+            return Err(Refusal::NotAbove);
+        }
+        if OpenTable::MOST <= self.live.count {
+            return Err(Refusal::TooManyOpen);
+        }
+        self.plan(room, DONE, Due::Begin)
     }
-    if_fits(room, used, 8, proceed(Due::Abort(0)))
-}
 
-// A reply with a stamp and a value.
-fn answer(code: u32, stamp: Stamp, value: u32, due: Due) -> Plan
-    ensures { result ≡ answer_plan code stamp.0 value due }
-{
-    let reply = Reply { code, stamp, value };
-    Plan { reply, due }
-}
+    // Refuses what a transaction that is not open asks for: 5.
+    fn check_open(self, k: Stamp) -> Result<(), Refusal>
+        ensures { result ≡ opened k.0 (stamps_of self.live) }
+    {
+        if self.live.has(k) {
+            Ok(())
+        } else {
+            Err(Refusal::NotOpen)
+        }
+    }
 
-// The place before one; 0 has none.
-fn before(at: usize) -> usize
-    ensures { result ≡ at - 1 }
-{
-    if at == 0 {
-        return 0;
+    // Commit and abort, whose record is due: 5, 10 or 0.
+    fn plan_end(self, room: usize, k: Stamp, due: Due) -> Result<Plan, Refusal>
+        requires { self.used.0 ≤ 65536 }
+        ensures { result ≡ end_plan due (stamps_of self.live) k.0 self.used.0 room }
+    {
+        self.check_open(k)?;
+        self.plan(room, DONE, due)
     }
-    at - 1
-}
 
-// Whether a read by k of j's version must wait: j is another open transaction.
-fn waits(live: OpenTable, k: Stamp, j: Stamp) -> bool
-    ensures { result ≡ waits_on k.0 j.0 (stamps_of live) }
-{
-    if j.0 == k.0 {
-        return false;
+    // Read by k of the version v: 5, 6, 10 or 0.
+    fn plan_read(self, room: usize, k: Stamp, v: Chosen) -> Result<Plan, Refusal>
+        requires { self.used.0 ≤ 65536 }
+        ensures { result ≡ read_plan v (stamps_of self.live) k.0 self.used.0 room }
+    {
+        self.check_open(k)?;
+        if v.stamp != k && self.live.has(v.stamp) {
+            return Err(Refusal::Waits(v.stamp));
+        }
+        let reply = Reply {
+            code: 0,
+            stamp: v.stamp,
+            value: v.value,
+        };
+        self.plan(room, reply, Due::Read(v.held))
     }
-    open_table::has(live, j)
-}
 
-// Read of the version v by k: 6, 10 or 0.
-fn plan_read(v: Chosen, live: OpenTable, k: Stamp, used: usize, room: usize) -> Plan
-    requires { used ≤ 65536 }
-    ensures { result ≡ read_plan v (stamps_of live) k.0 used room }
-{
-    let j = v.stamp;
-    if waits(live, k, j) {
-        return answer(6, j, 0, Due::Nothing);
+    // Write by k over the version v, where so many are held: 5, 7, 9, 10, 8 or 0.
+    fn plan_write(self, room: usize, k: Stamp, v: Chosen, count: usize) -> Result<Plan, Refusal>
+        requires { self.used.0 ≤ 65536 }
+        ensures { result ≡ write_plan v count (stamps_of self.live) k.0 self.used.0 room }
+    {
+        self.check_open(k)?;
+        if v.stamp == k {
+            return Err(Refusal::Written);
+        }
+        if k < v.mark {
+            let reply = Reply {
+                code: 8,
+                stamp: v.mark,
+                value: 0,
+            };
+            return self.plan(room, reply, Due::Abort(1));
+        }
+        if Versions::MOST <= count {
+            return Err(Refusal::TooManyVersions);
+        }
+        self.plan(room, DONE, Due::Write(v.at))
     }
-    if v.held {
-        let at = before(v.at);
-        return if_fits(room, used, 16, answer(0, j, v.value, Due::Read(at)));
-    }
-    if_fits(room, used, 16, answer(0, j, v.value, Due::ReadInitial))
-}
 
-// Write by k over the version v: 7, 9, 10, 8 or 0.
-fn plan_write(v: Chosen, count: usize, k: Stamp, used: usize, room: usize) -> Plan
-    requires { used ≤ 65536 }
-    ensures { result ≡ write_plan v count k.0 used room }
-{
-    let j = v.stamp;
-    if j.0 == k.0 {
-        return refuse(7);
+    // The small part after a call whose record is due.
+    pub fn after(mut self, op: Op, due: Due) -> Self
+        requires { Movable self due }
+        ensures { result ≡ core_after self op due }
+    {
+        self.used.0 += due.size();
+        match due {
+            Due::Begin => {
+                self.last = op.stamp;
+                self.live = self.live.insert(op.stamp);
+            }
+            Due::Commit | Due::Abort(_) => self.live = self.live.remove(op.stamp),
+            Due::Read(_) | Due::Write(_) => {}
+        }
+        self
     }
-    if k.0 < v.mark {
-        let mark = Stamp(v.mark);
-        return if_fits(room, used, 8, answer(8, mark, 0, Due::Abort(1)));
-    }
-    if Versions::MOST <= count {
-        return refuse(9);
-    }
-    if_fits(room, used, 12, proceed(Due::Write(v.at)))
 }
 
 // ---- the decision
 
-// Whether kind, stamp, item and unused numbers are right.
-fn good(op: Op) -> bool
-    ensures { result ≡ good_op op }
-{
-    let kind = op.kind;
-    if op.stamp.0 == 0 {
-        return false;
-    }
-    if kind == 2 {
-        return (op.item <= Op::MOST_ITEM) & (op.value == 0);
-    }
-    if kind == 3 {
-        return op.item <= Op::MOST_ITEM;
-    }
-    if (kind == 1) | ((kind == 4) | (kind == 5)) {
-        return (op.item == 0) & (op.value == 0);
-    }
-    false
-}
-
 // Whether the state is undamaged over a log of so much room.
-fn sound<'a>(
-    c: Core,
-    room: usize,
-    count: usize,
-    marks: &'a [u32; 64],
-    items: &'a [u32; 1024],
-    stamps: &'a [u32; 1024],
-    values: &'a [u32; 1024],
-    readers: &'a [u32; 1024],
-) -> bool
-    ensures { result ≡ undamaged_in c room count marks.now items.now stamps.now values.now readers.now }
+fn is_sound(core: Core, room: usize, marks: &[u32; 64], versions: &Versions) -> bool
+    requires { room ≤ 65536 }
+    ensures is { result ≡ undamaged_in core room marks.now versions.now }
+    ensures whole { IsTrue result → Whole core room marks.now versions.now }
 {
-    let used = c.used.0;
-    let live = c.live;
-    let last = c.last;
-    (4 <= used)
-        & (used <= room)
-        & open_table::intact(live, last)
-        & damage::marks_sound(marks, last.0)
-        & damage::columns_sound(items, stamps, values, readers, count, last.0)
+    (4 <= core.used.0)
+        & (core.used.0 <= room)
+        & core.live.is_intact(core.last)
+        & damage::marks_sound(marks, core.last)
+        & damage::columns_sound(versions, core.last)
 }
 
 // The version of the operation's item with the largest stamp not above its own, held or initial: the one that a read gets and a write goes over.
-fn choose_for<'a>(
-    op: Op,
-    count: usize,
-    marks: &'a [u32; 64],
-    items: &'a [u32; 1024],
-    stamps: &'a [u32; 1024],
-    values: &'a [u32; 1024],
-    readers: &'a [u32; 1024],
-) -> Chosen
-    requires { (op.item ≤ max_item) × (length marks.now ≡ 64) × (Ready items.now stamps.now values.now readers.now count) }
-    ensures { Answers (take count (rows items.now stamps.now values.now readers.now)) op.item op.stamp.0 (get_or marks.now op.item 0) result }
+fn choose_for(op: Op, marks: &[u32; 64], versions: &Versions) -> Chosen
+    requires { (op.item ≤ max_item) × Ready versions.now }
+    ensures { Answers (versions_of versions.now) op.item op.stamp.0 (get_or marks.now op.item 0) result }
 {
-    let item = op.item as usize;
-    let k = op.stamp;
-    let first = marks[item];
-    version_columns::choose(items, stamps, values, readers, count, op.item, k, first)
+    versions.choose(op.item, op.stamp, Stamp(marks[op.item as usize]))
 }
 
 // The plan of a well-formed operation on an undamaged state.
-fn decide<'a>(
-    c: Core,
+fn decide(
+    core: Core,
+    kind: Kind,
     op: Op,
     room: usize,
-    count: usize,
-    marks: &'a [u32; 64],
-    items: &'a [u32; 1024],
-    stamps: &'a [u32; 1024],
-    values: &'a [u32; 1024],
-    readers: &'a [u32; 1024],
-) -> Plan
-    requires { CanDecide c op room count marks.now items.now stamps.now values.now readers.now }
-    ensures { Decided room op (model_of c count marks.now items.now stamps.now values.now readers.now) result }
+    marks: &[u32; 64],
+    versions: &Versions,
+) -> Result<Plan, Refusal>
+    requires { CanDecide core kind op room marks.now versions.now }
+    ensures { Decided room op (model_of core marks.now versions.now) result }
 {
-    let kind = op.kind;
     let k = op.stamp;
-    let used = c.used.0;
-    let live = c.live;
-    let last = c.last;
-    if kind == 1 {
-        return plan_begin(last, live.count, k, used, room);
+    match kind {
+        Kind::Begin => core.plan_begin(room, k),
+        Kind::Read => core.plan_read(room, k, choose_for(op, marks, versions)),
+        Kind::Write => { core.plan_write(room, k, choose_for(op, marks, versions), versions.count) }
+        Kind::Commit => core.plan_end(room, k, Due::Commit),
+        Kind::Abort => core.plan_end(room, k, Due::Abort(0)),
     }
-    if open_table::has(live, k) {
-        if 3 < kind {
-            return plan_end(kind, used, room);
-        }
-        let v = choose_for(op, count, marks, items, stamps, values, readers);
-        if kind == 2 {
-            return plan_read(v, live, k, used, room);
-        }
-        return plan_write(v, count, k, used, room);
-    }
-    refuse(5)
 }
 
-// The plan of any operation on any state: code 1 where it is damaged, 2 where the operation is not well-formed, else as decided.
-pub fn planned<'a>(
-    c: Core,
+// The plan of any operation on any state: a refusal where the state is damaged or the operation is not well-formed, else as decided.
+pub fn planned(
+    core: Core,
     op: Op,
     room: usize,
-    count: usize,
-    marks: &'a [u32; 64],
-    items: &'a [u32; 1024],
-    stamps: &'a [u32; 1024],
-    values: &'a [u32; 1024],
-    readers: &'a [u32; 1024],
-) -> Plan
-    requires { (Sized marks.now items.now stamps.now values.now readers.now) × (room ≤ 65536) }
-    ensures { PlanIs room op (undamaged_in c room count marks.now items.now stamps.now values.now readers.now) (model_of c count marks.now items.now stamps.now values.now readers.now) result }
+    marks: &[u32; 64],
+    versions: &Versions,
+) -> Result<Plan, Refusal>
+    requires { room ≤ 65536 }
+    ensures { PlanIs room op (undamaged_in core room marks.now versions.now) (model_of core marks.now versions.now) result }
 {
-    if sound(c, room, count, marks, items, stamps, values, readers) {
-        if good(op) {
-            return decide(c, op, room, count, marks, items, stamps, values, readers);
-        }
-        return refuse(2);
+    if !is_sound(core, room, marks, versions) {
+        return Err(Refusal::Damaged);
     }
-    refuse(1)
+    let kind = Kind::of(op)?;
+    decide(core, kind, op, room, marks, versions)
 }

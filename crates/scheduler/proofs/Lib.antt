@@ -1,4 +1,3 @@
 pub mod StateLaws
 pub mod CallLaws
-pub mod Something
 pub mod FreshLaws

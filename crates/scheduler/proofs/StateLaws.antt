@@ -7,9 +7,8 @@ use Rattle.log_format.specs.Whole.{max_log}
 use Rattle.scheduler_rules.specs.Model.{Model}
 use Rattle.scheduler_rules.specs.Sound.{Sound}
 use Rattle.open_table.proofs.TableLaws.{stamps_of_table}
-use Rattle.version_columns.proofs.RowLaws.{versions_columns}
+use Rattle.version_columns.proofs.RowLaws.{Wide, versions_columns}
 use Rattle.decision.specs.declared.Core.{Core}
-use Rattle.decision.specs.Decided.{Sized}
 use Rattle.decision.proofs.WholeLaws.{undamaged_whole, whole_undamaged}
 use Rattle.scheduler.specs.declared.State.{State}
 use Rattle.scheduler.specs.State.{abs, state_of, undamaged, Undamaged, Full}
@@ -31,13 +30,13 @@ abs_state m = model_eq refl (stamps_of_table m.live) (versions_columns m.held) r
 module _ (s : State) (room : ℕ) where
   pub undamaged_is : Full s → room ≤ max_log → undamaged s room ≡ true → Undamaged s room
   undamaged_is f small h =
-      let z : Sized s.marks s.versions.items s.versions.stamps s.versions.values s.versions.marks = record { marks_full = f.marks; items_full = f.items; stamps_full = f.stamps; values_full = f.values; readers_full = f.readers } in
-      let w = undamaged_whole s.core room s.versions.count s.marks s.versions.items s.versions.stamps s.versions.values s.versions.marks z f.opens small h in
-      record { sound = w.sound; is = state_eq (core_eq refl refl w.table) refl w.columns; within = w.within }
+      let w : Wide s.versions = record { items = f.items; stamps = f.stamps; values = f.values; marks = f.readers } in
+      let r = undamaged_whole s.core room s.marks s.versions f.opens f.marks w small h in
+      record { sound = r.sound; is = state_eq (core_eq refl refl r.table) refl r.columns; within = r.within }
 
   pub is_undamaged : Undamaged s room → undamaged s room ≡ true
   is_undamaged u =
-      whole_undamaged s.core room s.versions.count s.marks s.versions.items s.versions.stamps s.versions.values s.versions.marks (record {
+      whole_undamaged s.core room s.marks s.versions (record {
         sound = u.sound;
         table = ap (λ (t : State). t.core.live) u.is;
         columns = ap (λ (t : State). t.versions) u.is;

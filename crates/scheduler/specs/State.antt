@@ -10,7 +10,7 @@ use Rattle.scheduler.specs.declared.State.{State}
 
 -- the model that a state means: lists without padding
 abbrev pub abs : State → Model
-abs s = model_of s.core s.versions.count s.marks s.versions.items s.versions.stamps s.versions.values s.versions.marks
+abs s = model_of s.core s.marks s.versions
 
 -- the state that means a model: zeros past each count
 abbrev pub state_of : Model → State
@@ -26,7 +26,7 @@ nothing = record { last = 0; live = []; held = []; marks = replicate 64 0; used 
 
 -- the state is not damaged, where the log may have so many bytes
 abbrev pub undamaged : State → ℕ → Bool
-undamaged s room = undamaged_in s.core room s.versions.count s.marks s.versions.items s.versions.stamps s.versions.values s.versions.marks
+undamaged s room = undamaged_in s.core room s.marks s.versions
 
 -- the same in plain words: it is the picture of a sound model, and the bytes used are within the room
 pub record Undamaged (s : State) (room : ℕ) : Type 0 where

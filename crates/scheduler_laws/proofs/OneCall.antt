@@ -25,6 +25,7 @@ use Rattle.scheduler_rules.proofs.SoundLaws.{sound_next}
 use Rattle.scheduler_rules.proofs.NeverWaits as waiting
 use Rattle.open_table.specs.Intact.{is_intact}
 use Rattle.open_table.proofs.IntactLaws.{and_parts}
+use Rattle.version_columns.specs.declared.Versions.{Versions}
 use Rattle.damage.specs.Damage.{marks_sound, columns_sound}
 use Rattle.decision.specs.declared.Core.{Core}
 use Rattle.decision.specs.Decided.{undamaged_in}
@@ -38,10 +39,10 @@ use Rattle.scheduler_laws.proofs.DueLaws.{due_said, one_due, due_fits}
 use Rattle.scheduler_laws.proofs.WrittenLaws.{length-written, written_other}
 
 -- where the damage check passes, no more bytes are used than the log may have
-within : (c : Core) (room count : ℕ) (marks items stamps values readers : List ℕ) → undamaged_in c room count marks items stamps values readers ≡ true → c.used.0 ≤ room
+within : (c : Core) (room : ℕ) (marks : List ℕ) (t : Versions) → undamaged_in c room marks t ≡ true → c.used.0 ≤ room
 unfolding undamaged_in
-within c room count marks items stamps values readers h =
-    second (leb 4 c.used.0) (is_intact c.live c.last.0) (marks_sound marks c.last.0) (columns_sound items stamps values readers count c.last.0) h
+within c room marks t h =
+    second (leb 4 c.used.0) (is_intact c.live c.last.0) (marks_sound marks c.last.0) (columns_sound t c.last.0) h
   where
     second : (x y z w : Bool) → (x && leb c.used.0 room && y && z && w) ≡ true → c.used.0 ≤ room
     second x y z w h = leb-true _ _ (and_parts x _ (and_parts _ y (and_parts _ z (and_parts _ w h).0).0).0).1
@@ -110,7 +111,7 @@ module _ (s : State) (op : Op) (b : List ℕ) where
 
   -- a call's record fits: the bytes then used are within the buffer, or nothing was written
   fits : undamaged s (room_of b) ≡ true → used_of s + sizes (table (room_of b) op (abs s)).due ≤ room_of b
-  fits h = due_fits (room_of b) op (abs s) (within s.core (room_of b) s.versions.count s.marks s.versions.items s.versions.stamps s.versions.values s.versions.marks h)
+  fits h = due_fits (room_of b) op (abs s) (within s.core (room_of b) s.marks s.versions h)
 
   -- codes 1 to 7, 9 and 10 change no state and no byte
   pub refusals_change_nothing : Full s → (reply_to s op b).code ≢ 0 → (reply_to s op b).code ≢ 8 → (state_after s op b ≡ s) × (log_after s op b ≡ b)

@@ -4,7 +4,7 @@
 use log_format::Stamp;
 
 // An operation: kind (1 begin, 2 read, 3 write, 4 commit, 5 abort), stamp, item, value. A number the kind has no use for is 0.
-#[derive(Clone, Copy)]
+#[derive(Clone, Copy, Debug, PartialEq, Eq)]
 pub struct Op {
     pub kind: u32,
     pub stamp: Stamp,
@@ -18,7 +18,7 @@ impl Op {
 }
 
 // A reply: the code, then what the page's table says of the code.
-#[derive(Clone, Copy)]
+#[derive(Clone, Copy, Debug, PartialEq, Eq)]
 pub struct Reply {
     pub code: u32,
     pub stamp: Stamp,

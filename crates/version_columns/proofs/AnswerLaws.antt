@@ -28,7 +28,7 @@ module _ (t : Versions) (w : Wide t) (r : Ready t) (x k first at : ℕ) (place :
     -- a held version is met
     pub answers_held : get_or t.items b 0 ≡ x
         → Answers (versions_of t) x k first
-        (record { at = at; held = Some b; stamp = record { 0 = get_or t.stamps b 0 }; value = get_or t.values b 0; mark = get_or t.marks b 0 })
+        (record { at = at; held = Some b; stamp = record { 0 = get_or t.stamps b 0 }; value = get_or t.values b 0; mark = record { 0 = get_or t.marks b 0 } })
     answers_held i =
         let met : below x (suc k) (initial_of x first) (versions_of t) ≡ get_or (versions_of t) b (initial_of x first) =
         below_held x k (initial_of x first) (initial_of x first) (versions_of t) b r.sorted refl here (ap (λ (u : Version). u.item) row ∙ i) in
@@ -41,13 +41,13 @@ module _ (t : Versions) (w : Wide t) (r : Ready t) (x k first at : ℕ) (place :
 
   -- none is
   answers_none : below x (suc k) (initial_of x first) (versions_of t) ≡ initial_of x first
-      → Answers (versions_of t) x k first (record { at = at; held = None; stamp = record { 0 = 0 }; value = 0; mark = first })
+      → Answers (versions_of t) x k first (record { at = at; held = None; stamp = record { 0 = 0 }; value = 0; mark = record { 0 = first } })
   answers_none met = record { version = met; at = place; held = λ c q. cc; none = λ q. met }
 
   pub answers_other : (b : ℕ) → at ≡ suc b → get_or t.items b 0 ≢ x
-      → Answers (versions_of t) x k first (record { at = at; held = None; stamp = record { 0 = 0 }; value = 0; mark = first })
+      → Answers (versions_of t) x k first (record { at = at; held = None; stamp = record { 0 = 0 }; value = 0; mark = record { 0 = first } })
   answers_other b e i =
       answers_none (below_other x k (initial_of x first) (initial_of x first) (versions_of t) b r.sorted refl (here b e) (λ j. i (sym (ap (λ (u : Version). u.item) (row b e)) ∙ j)))
 
-  pub answers_first : at ≡ 0 → Answers (versions_of t) x k first (record { at = at; held = None; stamp = record { 0 = 0 }; value = 0; mark = first })
+  pub answers_first : at ≡ 0 → Answers (versions_of t) x k first (record { at = at; held = None; stamp = record { 0 = 0 }; value = 0; mark = record { 0 = first } })
   answers_first h = answers_none (below-first x k (initial_of x first) (versions_of t) r.sorted (sym place ∙ h))

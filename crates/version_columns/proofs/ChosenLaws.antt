@@ -33,7 +33,7 @@ module _ (l : List Version) (x k first : ℕ) (r : Chosen) (a : Answers l x k fi
   chosen_other h n w = n (sym stamp_met ∙ wrote_own x k (initial_of x first) l refl h w)
 
   -- then it is also the one beneath a write by k
-  pub chosen-beneath : 0 < k → r.stamp.0 ≢ k → below x k (initial_of x first) l ≡ record { item = x; stamp = r.stamp.0; value = r.value; mark = r.mark }
+  pub chosen-beneath : 0 < k → r.stamp.0 ≢ k → below x k (initial_of x first) l ≡ record { item = x; stamp = r.stamp.0; value = r.value; mark = r.mark.0 }
   chosen-beneath h n = beneath-chosen x k (initial_of x first) l (chosen_other h n) ∙ a.version
 
   -- a write by k goes to the place
@@ -49,7 +49,7 @@ module _ (l : List Version) (x k first : ℕ) (r : Chosen) (a : Answers l x k fi
     pub chosen_at : b < length l
     chosen_at = omega (arith, (a.held b t).0, chosen_within)
 
-    pub chosen_row : get_or l b (initial_of x first) ≡ record { item = x; stamp = r.stamp.0; value = r.value; mark = r.mark }
+    pub chosen_row : get_or l b (initial_of x first) ≡ record { item = x; stamp = r.stamp.0; value = r.value; mark = r.mark.0 }
     chosen_row = (a.held b t).1 ∙ a.version
 
     pub chosen-raise : (m : ℕ) → Sorted l → with_mark b m (columns_of l) ≡ columns_of (raise x r.stamp.0 m l)

@@ -30,7 +30,6 @@ copied_opened l at n h g =
     let part : drop at (take n l) ≡ take (n - at) (drop at l) = rw whole at (drop-take at (n - at) l) in
     rw (end, part) (append_assoc (take (at + 1) l) (take (n - at) (drop at l)) (drop (n + 1) l))
 
-
 pub column-insert : (xs : List ℕ) (at x : ℕ) → at ≤ length xs → length xs < max_versions
     → inserted at (length xs) x (column xs) ≡ column (take at xs ++ x ∷ drop at xs)
 column-insert xs at x l h =

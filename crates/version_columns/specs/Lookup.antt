@@ -37,7 +37,7 @@ initial_of x first = record { item = x; stamp = 0; value = 0; mark = first }
 
 -- r is the version of x in l with the largest stamp not above k, or the initial one, whose mark is first
 pub record Answers (l : List Version) (x k first : ℕ) (r : Chosen) : Type 0 where
-  pub version : below x (suc k) (initial_of x first) l ≡ record { item = x; stamp = r.stamp.0; value = r.value; mark = r.mark }
+  pub version : below x (suc k) (initial_of x first) l ≡ record { item = x; stamp = r.stamp.0; value = r.value; mark = r.mark.0 }
   -- where the version of x by k goes
   pub at : r.at ≡ up_to x k l
   -- a held one stands just before that place

@@ -27,7 +27,7 @@ pub struct Chosen {
     pub held: Option<usize>,
     pub stamp: Stamp,
     pub value: u32,
-    pub mark: u32,
+    pub mark: Stamp,
 }
 
 impl Versions {
@@ -113,9 +113,9 @@ impl Versions {
     }
 
     // The version of an item with the largest stamp not above `stamp`, or the initial one, whose mark is `first`.
-    pub fn choose(&self, item: u32, stamp: Stamp, first: u32) -> Chosen
+    pub fn choose(&self, item: u32, stamp: Stamp, first: Stamp) -> Chosen
         requires { Ready self.now }
-        ensures { Answers (versions_of self.now) item stamp.0 first result }
+        ensures { Answers (versions_of self.now) item stamp.0 first.0 result }
     {
         let at = self.place_of(item, stamp);
         match at.checked_sub(1) {
@@ -124,7 +124,7 @@ impl Versions {
                 held: Some(b),
                 stamp: Stamp(self.stamps[b]),
                 value: self.values[b],
-                mark: self.marks[b],
+                mark: Stamp(self.marks[b]),
             },
             _ => Chosen {
                 at,

@@ -1,17 +1,17 @@
 -- `decision::planned` meets its contract: a damaged state first, then a bad operation, then the decision.
-use Rattle.std.proofs.Common.{◌≡◌, ◌≤◌, ◌∙◌, sym, length, arith}
-use Rattle.decision.proofs.WholeLaws.{can_decide, bad_planned}
-use Rattle.decision.proofs.GoodLaws.{good_is, not_good}
+use Rattle.std.proofs.Common.{◌≡◌, ◌∙◌, sym, rules, Err}
+use Rattle.decision.specs.declared.Refusal.TheVariants.{Malformed}
+use Rattle.decision.proofs.WholeLaws.{can_decide, plan_decided}
+use Rattle.decision.proofs.PlanLaws.{bad_decided}
 use Rattle.decision.proofs.planned.Goals as goal
+
+pub returns-in_err-kind : goal.returns-in_err-kind
+returns-in_err-kind c =
+    let bad = c.in_err-kind.ensures.err in
+    let refused : c.from_residual.result ≡ Err Malformed = search rules in
+    rw refused (plan_decided (sym c.is_sound.ensures.is ∙ c.if-not-is_sound.false) (bad_decided _ _ _ bad.1))
 
 pub decide-requires : goal.decide-requires
 decide-requires c =
-    let open_full : length c.args.c.live.stamps ≡ 32 = omega arith in
-    let v : c.args.op.value ≤ 4294967295 = omega arith in
-    can_decide _ _ _ _ _ _ _ _ c.requires.0 open_full c.requires.1 (sym c.sound.ensures ∙ c.if-sound.true) (good_is _ v (sym c.good.ensures ∙ c.if-good.true))
-
-pub returns-then-sound : goal.returns-then-sound
-returns-then-sound c =
-    let open_full : length c.args.c.live.stamps ≡ 32 = omega arith in
-    let passed = sym c.sound.ensures ∙ c.if-sound.true in
-    rw c.refuse.ensures (bad_planned _ _ _ _ _ _ _ _ c.requires.0 open_full c.requires.1 passed (not_good _ (sym c.good.ensures ∙ c.if-good.false)))
+    let good = c.in_ok-kind.ensures.ok in
+    can_decide _ _ _ _ (c.is_sound.ensures.whole c.if-not-is_sound.false) good.0 good.1

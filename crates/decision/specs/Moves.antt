@@ -1,17 +1,13 @@
 -- How a call changes the small part of the state, by the record due.
 -- Assumes nothing.
-use Rattle.std.specs.Prelude.{ℕ, ◌+◌, ◌≤◌, ◌<◌, min, List, [], ◌∷◌, ◌++◌, length}
+use Rattle.std.specs.Prelude.{ℕ, ◌+◌, ◌≤◌, ◌<◌, [], ◌∷◌, ◌++◌}
 use Rattle.log_format.specs.Whole.{max_log}
-use Rattle.log_format.specs.declared.Place.{Place}
-use Rattle.scheduler_rules.specs.Model.{max_open, max_item, close}
-use Rattle.scheduler_rules.specs.Sizes.{sizes}
+use Rattle.scheduler_rules.specs.Model.{max_open, close}
 use Rattle.scheduler_rules.specs.declared.Op.{Op}
 use Rattle.open_table.specs.Open.{stamps_of, table_of, Padded}
-use Rattle.decision.specs.Decided.{due_of}
 use Rattle.decision.specs.declared.Core.{Core}
-use Rattle.decision.specs.declared.Plan.{Plan}
 use Rattle.decision.specs.declared.Due.{Due}
-use Rattle.decision.specs.declared.Due.TheVariants.{Nothing, Begin, ReadInitial, Read, Write, Commit, Abort}
+use Rattle.decision.specs.declared.Due.TheVariants.{Begin, Read, Write, Commit, Abort}
 
 -- n more bytes used
 abbrev pub grown : Core → ℕ → Core
@@ -26,9 +22,7 @@ abbrev pub departed : Core → ℕ → ℕ → Core
 departed c k n = record { last = c.last; used = record { 0 = c.used.0 + n }; live = table_of (close k (stamps_of c.live)) }
 
 abbrev pub core_after : Core → Op → Due → Core
-core_after c op Nothing = c
 core_after c op Begin = entered c op.stamp.0
-core_after c op ReadInitial = grown c 16
 core_after c op (Read at) = grown c 16
 core_after c op (Write at) = grown c 12
 core_after c op Commit = departed c op.stamp.0 7
@@ -36,9 +30,7 @@ core_after c op (Abort cause) = departed c op.stamp.0 8
 
 -- a begin has a place in the open table
 abbrev pub HasPlace : Core → Due → Type 0
-HasPlace c Nothing = Unit {0}
 HasPlace c Begin = c.live.count < max_open
-HasPlace c ReadInitial = Unit {0}
 HasPlace c (Read at) = Unit {0}
 HasPlace c (Write at) = Unit {0}
 HasPlace c Commit = Unit {0}
@@ -49,19 +41,3 @@ pub record Movable (c : Core) (due : Due) : Type 0 where
   pub padded : Padded c.live
   pub short : c.used.0 ≤ max_log
   pub place : HasPlace c due
-
--- an abort's cause is 0 or 1
-abbrev pub Caused : Due → Type 0
-Caused Nothing = Unit {0}
-Caused Begin = Unit {0}
-Caused ReadInitial = Unit {0}
-Caused (Read at) = Unit {0}
-Caused (Write at) = Unit {0}
-Caused Commit = Unit {0}
-Caused (Abort cause) = cause ≤ 1
-
--- what writing the record due needs: it fits, and its item and cause fit their bytes
-pub record Notable (b : List ℕ) (used : Place) (op : Op) (p : Plan) : Type 0 where
-  pub fits : used.0 + sizes (due_of op p) ≤ min (length b) max_log
-  pub item : op.item ≤ max_item
-  pub cause : Caused p.due
