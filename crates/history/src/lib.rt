@@ -11,14 +11,14 @@ ghost use Rattle.log_format.specs.Events.{event_of};
 ghost use Rattle.history_rules.specs.WellFormed.{most_committed, is_commit, count_commits};
 ghost use Rattle.history_rules.specs.History.{events_in, fields_from, dangling};
 ghost use Rattle.history_rules.specs.Held.{stage_in};
-ghost use Rattle.index.specs.Index.{table_of, Table};
+ghost use Rattle.index.specs.Index.{table_of};
 ghost use Rattle.history.specs.Judging.{Lent, Walked, later, Judgement};
 ghost use Rattle.history.specs.Nodes.{Passes, WithCommit, Nodes};
 ghost use Rattle.history.specs.Reads.{ReadIs};
 
 use history_rules::BadLog;
 use log_format::{Place, Record};
-use transactions::{Stage, is_at};
+use transactions::{Stage, Transactions};
 
 // ---- codes 22 to 25
 
@@ -40,7 +40,9 @@ fn walk(log: &[u8], map: &mut [u64]) -> Result<usize, BadLog>
         let Some((record, next)) = log_reader::decode_at(log, at)? else {
             return Ok(commits);
         };
-        transactions::check(map, record).map_err(|fault| BadLog::Wrong(fault, at))?;
+        Transactions { map }
+            .check(record)
+            .map_err(|fault| BadLog::Wrong(fault, at))?;
         transactions::note(map, record);
         commits += commits_in(record);
         at = next;
@@ -50,20 +52,21 @@ fn walk(log: &[u8], map: &mut [u64]) -> Result<usize, BadLog>
 // ---- codes 26 and 27
 
 // Whether a record is a read by a committed transaction from one that has not committed.
-fn dangling_read(map: &[u64], record: Record) -> bool
-    requires { Table map.now }
-    ensures { result ≡ dangling (stage_in (table_of map.now)) (event_of «record») }
+fn dangling_read(noted: &Transactions, record: Record) -> bool
+    ensures { result ≡ dangling (stage_in (table_of noted.now.map.now)) (event_of «record») }
 {
     let Record::Read { stamp, version, .. } = record else {
         return false;
     };
-    is_at(map, stamp, Stage::Committed) && version.0 != 0 && !is_at(map, version, Stage::Committed)
+    noted.is_at(stamp, Stage::Committed)
+        && version.0 != 0
+        && !noted.is_at(version, Stage::Committed)
 }
 
 // A log whose fields are right, where so many commit, judged further: 26, then 27 with the first such read's place, else it passes.
-fn settle(log: &[u8], map: &[u64], commits: usize) -> Result<usize, BadLog>
-    requires { (Table map.now) × ((4 ≤ length log.now) × (commits ≡ count_commits (events_in (fields_from log.now 4)))) }
-    ensures { result ≡ later (stage_in (table_of map.now)) (fields_from log.now 4) }
+fn settle(log: &[u8], noted: &Transactions, commits: usize) -> Result<usize, BadLog>
+    requires { (4 ≤ length log.now) × (commits ≡ count_commits (events_in (fields_from log.now 4))) }
+    ensures { result ≡ later (stage_in (table_of noted.now.map.now)) (fields_from log.now 4) }
 {
     if numbers::MAX_COMMITTED < commits {
         return Err(BadLog::TooMany);
@@ -73,7 +76,7 @@ fn settle(log: &[u8], map: &[u64], commits: usize) -> Result<usize, BadLog>
         let Ok(Some((record, next))) = log_reader::decode_at(log, at) else {
             return Ok(commits);
         };
-        if dangling_read(map, record) {
+        if dangling_read(noted, record) {
             return Err(BadLog::Dangling(at));
         }
         at = next;
@@ -91,7 +94,7 @@ fn judge(log: &[u8], map: &mut [u64]) -> Result<usize, BadLog>
         return Err(BadLog::NoLog);
     }
     let commits = walk(log, map)?;
-    settle(log, map, commits)
+    settle(log, &Transactions { map }, commits)
 }
 
 // ---- the committed transactions

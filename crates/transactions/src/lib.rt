@@ -53,119 +53,120 @@ fn item_key(stamp: Stamp, item: u8) -> u64
     u64::from(stamp.0) * 128 + u64::from(item)
 }
 
-// Whether a transaction has come to a stage and no further. Nothing changes.
-pub fn is_at(map: &[u64], stamp: Stamp, stage: Stage) -> bool
-    requires { Table map.now }
-    ensures { result ≡ eqb (stage_in (table_of map.now) stamp.0) (stage_number stage) }
-{
-    index::get(map, stage_key(stamp)) == u64::from(stage)
+// The transactions of a log, as a map has them.
+#[derive(Clone, Copy)]
+pub struct Transactions<'a> {
+    pub map: &'a [u64],
+    ghost table: { Table map.now },
 }
 
-// One more than the value that a transaction wrote to an item, or 0. Nothing changes.
-pub fn written_of(map: &[u64], stamp: Stamp, item: u8) -> u64
-    requires { Table map.now }
-    ensures { result ≡ written_in (table_of map.now) stamp.0 item }
-{
-    index::get(map, item_key(stamp, item))
-}
-
-// ---- codes 23 to 25
-
-// Whether a stamp is 0, not begun or already ended: 23.
-fn is_idle(map: &[u64], stamp: Stamp) -> bool
-    requires { Table map.now }
-    ensures { result ≡ idle (stage_in (table_of map.now)) stamp.0 }
-{
-    stamp.0 == 0 || !is_at(map, stamp, Stage::Running)
-}
-
-// Whether a version of an item may not be read with the value: not written with it, or aborted; of version 0, the value is not 0.
-fn is_unfit(map: &[u64], item: u8, version: Stamp, value: u32) -> bool
-    requires { Table map.now }
-    ensures { result ≡ unfit (stage_in (table_of map.now)) (written_in (table_of map.now)) item version.0 value }
-{
-    if version.0 == 0 {
-        return value != 0;
+impl Transactions<'_> {
+    // Whether a transaction has come to a stage and no further.
+    pub fn is_at(&self, stamp: Stamp, stage: Stage) -> bool
+        ensures { result ≡ eqb (stage_in (table_of self.now.map.now) stamp.0) (stage_number stage) }
+    {
+        index::get(self.map, stage_key(stamp)) == u64::from(stage)
     }
-    written_of(map, version, item) != u64::from(value) + 1 || is_at(map, version, Stage::Aborted)
-}
 
-// Whether the reader may not read an item in a version with the value: it has an earlier write of its own, or the version is unfit. 25.
-fn is_unread(map: &[u64], stamp: Stamp, item: u8, version: Stamp, value: u32) -> bool
-    requires { Table map.now }
-    ensures { result ≡ unread (stage_in (table_of map.now)) (written_in (table_of map.now)) stamp.0 item version.0 value }
-{
-    (written_of(map, stamp, item) != 0 && version != stamp) || is_unfit(map, item, version, value)
-}
+    // One more than the value that a transaction wrote to an item, or 0.
+    pub fn written_of(&self, stamp: Stamp, item: u8) -> u64
+        ensures { result ≡ written_in (table_of self.now.map.now) stamp.0 item }
+    {
+        index::get(self.map, item_key(stamp, item))
+    }
 
-// A begin: its stamp is not 0 and has not begun.
-fn check_begin(map: &[u64], stamp: Stamp) -> Result<(), Fault>
-    requires { Table map.now }
-    ensures { told_code result ≡ fault_in (table_of map.now) (begins stamp.0) }
-{
-    if stamp.0 == 0 || !is_at(map, stamp, Stage::Unbegun) {
-        return Err(Fault::Stamp);
-    }
-    Ok(())
-}
+    // ---- codes 23 to 25
 
-// A commit or an abort: its stamp runs.
-fn check_end(map: &[u64], stamp: Stamp) -> Result<(), Fault>
-    requires { Table map.now }
-    ensures { told_code result ≡ fault_in (table_of map.now) (commits stamp.0) }
-{
-    if is_idle(map, stamp) {
-        return Err(Fault::Stamp);
+    // Whether a stamp is 0, not begun or already ended: 23.
+    fn is_idle(&self, stamp: Stamp) -> bool
+        ensures { result ≡ idle (stage_in (table_of self.now.map.now)) stamp.0 }
+    {
+        stamp.0 == 0 || !self.is_at(stamp, Stage::Running)
     }
-    Ok(())
-}
 
-// A read: its stamp runs, then its item is one, then its version may be read.
-fn check_read(map: &[u64], stamp: Stamp, item: u8, version: Stamp, value: u32) -> Result<(), Fault>
-    requires { Table map.now }
-    ensures { told_code result ≡ fault_in (table_of map.now) (reads stamp.0 item version.0 value) }
-{
-    if is_idle(map, stamp) {
-        return Err(Fault::Stamp);
+    // Whether a version of an item may not be read with the value: not written with it, or aborted; of version 0, the value is not 0.
+    fn is_unfit(&self, item: u8, version: Stamp, value: u32) -> bool
+        ensures { result ≡ unfit (stage_in (table_of self.now.map.now)) (written_in (table_of self.now.map.now)) item version.0 value }
+    {
+        if version.0 == 0 {
+            return value != 0;
+        }
+        self.written_of(version, item) != u64::from(value) + 1
+            || self.is_at(version, Stage::Aborted)
     }
-    if MAX_ITEM < item {
-        return Err(Fault::Item);
-    }
-    if is_unread(map, stamp, item, version, value) {
-        return Err(Fault::Version);
-    }
-    Ok(())
-}
 
-// A write, whatever the value: its stamp runs, then its item is one that it has not written.
-fn check_write(map: &[u64], stamp: Stamp, item: u8, value: u32) -> Result<(), Fault>
-    requires { Table map.now }
-    ensures { told_code result ≡ fault_in (table_of map.now) (writes stamp.0 item value) }
-{
-    if is_idle(map, stamp) {
-        return Err(Fault::Stamp);
+    // Whether the reader may not read an item in a version with the value: it has an earlier write of its own, or the version is unfit. 25.
+    fn is_unread(&self, stamp: Stamp, item: u8, version: Stamp, value: u32) -> bool
+        ensures { result ≡ unread (stage_in (table_of self.now.map.now)) (written_in (table_of self.now.map.now)) stamp.0 item version.0 value }
+    {
+        (self.written_of(stamp, item) != 0 && version != stamp)
+            || self.is_unfit(item, version, value)
     }
-    if MAX_ITEM < item || written_of(map, stamp, item) != 0 {
-        return Err(Fault::Item);
-    }
-    Ok(())
-}
 
-// Whether a record is right after those noted, or the first of its faults. Nothing changes.
-pub fn check(map: &[u64], record: Record) -> Result<(), Fault>
-    requires { Table map.now }
-    ensures { told_code result ≡ fault_in (table_of map.now) (event_of «record») }
-{
-    match record {
-        Record::Begin(stamp) => check_begin(map, stamp),
-        Record::Read {
-            stamp,
-            item,
-            version,
-            value,
-        } => check_read(map, stamp, item, version, value),
-        Record::Write { stamp, item, value } => check_write(map, stamp, item, value),
-        Record::Commit(stamp) | Record::Abort { stamp, .. } => check_end(map, stamp),
+    // A begin: its stamp is not 0 and has not begun.
+    fn check_begin(&self, stamp: Stamp) -> Result<(), Fault>
+        ensures { told_code result ≡ fault_in (table_of self.now.map.now) (begins stamp.0) }
+    {
+        if stamp.0 == 0 || !self.is_at(stamp, Stage::Unbegun) {
+            return Err(Fault::Stamp);
+        }
+        Ok(())
+    }
+
+    // A commit or an abort: its stamp runs.
+    fn check_end(&self, stamp: Stamp) -> Result<(), Fault>
+        ensures { told_code result ≡ fault_in (table_of self.now.map.now) (commits stamp.0) }
+    {
+        if self.is_idle(stamp) {
+            return Err(Fault::Stamp);
+        }
+        Ok(())
+    }
+
+    // A read: its stamp runs, then its item is one, then its version may be read.
+    fn check_read(&self, stamp: Stamp, item: u8, version: Stamp, value: u32) -> Result<(), Fault>
+        ensures { told_code result ≡ fault_in (table_of self.now.map.now) (reads stamp.0 item version.0 value) }
+    {
+        if self.is_idle(stamp) {
+            return Err(Fault::Stamp);
+        }
+        if MAX_ITEM < item {
+            return Err(Fault::Item);
+        }
+        if self.is_unread(stamp, item, version, value) {
+            return Err(Fault::Version);
+        }
+        Ok(())
+    }
+
+    // A write, whatever the value: its stamp runs, then its item is one that it has not written.
+    fn check_write(&self, stamp: Stamp, item: u8, value: u32) -> Result<(), Fault>
+        ensures { told_code result ≡ fault_in (table_of self.now.map.now) (writes stamp.0 item value) }
+    {
+        if self.is_idle(stamp) {
+            return Err(Fault::Stamp);
+        }
+        if MAX_ITEM < item || self.written_of(stamp, item) != 0 {
+            return Err(Fault::Item);
+        }
+        Ok(())
+    }
+
+    // Whether a record is right after those noted, or the first of its faults.
+    pub fn check(&self, record: Record) -> Result<(), Fault>
+        ensures { told_code result ≡ fault_in (table_of self.now.map.now) (event_of «record») }
+    {
+        match record {
+            Record::Begin(stamp) => self.check_begin(stamp),
+            Record::Read {
+                stamp,
+                item,
+                version,
+                value,
+            } => self.check_read(stamp, item, version, value),
+            Record::Write { stamp, item, value } => self.check_write(stamp, item, value),
+            Record::Commit(stamp) | Record::Abort { stamp, .. } => self.check_end(stamp),
+        }
     }
 }
 

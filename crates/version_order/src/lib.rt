@@ -17,6 +17,7 @@ use log_format::Stamp;
 use log_reader::{be32, body_len};
 use numbers::MAX_ITEM;
 use order_rules::{BadOrder, Head};
+use transactions::Transactions;
 
 // The tag of a version order's fields.
 const TAG: u8 = 32;
@@ -68,7 +69,8 @@ impl Committed<'_> {
     pub fn wrote(&self, stamp: u32, item: u8) -> bool
         ensures { result ≡ differ (written_in (table_of self.now.map.now) stamp item) 0 }
     {
-        transactions::written_of(self.map, Stamp(stamp), item) != 0
+        let noted = Transactions { map: self.map };
+        noted.written_of(Stamp(stamp), item) != 0
     }
 }
 

@@ -6,14 +6,14 @@ use borrow.Author.Rules.{rules}
 use Rattle.history.proofs.settle.Goals as goal
 
 pub returns-in_default : goal.returns-in_default
-returns-in_default c = settle_end c.loop-record.invariant c.requires.1.1 (omega arith) (search rules)
+returns-in_default c = settle_end c.loop-record.invariant c.requires.1 (omega arith) (search rules)
 
 pub returns-in_default-2 : goal.returns-in_default-2
-returns-in_default-2 c = settle_broken c.loop-record.invariant c.requires.1.1 (omega arith) _ (sym c.decode_at.ensures ∙ c.in_default.is)
+returns-in_default-2 c = settle_broken c.loop-record.invariant c.requires.1 (omega arith) _ (sym c.decode_at.ensures ∙ c.in_default.is)
 
 pub returns-then-dangling_read : goal.returns-then-dangling_read
 returns-then-dangling_read c =
-    settle_bad c.loop-record.invariant c.requires.1.1 (omega arith) (λ i. (c.type_inv.log i).fits) (sym (rw c.in-Ok-Some.field-0-is at c.in-Ok-Some.ensures))
+    settle_bad c.loop-record.invariant c.requires.1 (omega arith) (λ i. (c.type_inv.log i).fits) (sym (rw c.in-Ok-Some.field-0-is at c.in-Ok-Some.ensures))
     (sym c.dangling_read.ensures ∙ c.if-dangling_read.true)
 
 pub loop-record-smaller : goal.loop-record-smaller

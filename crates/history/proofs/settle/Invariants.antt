@@ -8,7 +8,7 @@ use Rattle.history.proofs.SettleLaws.{Settling}
 use Rattle.history.proofs.settle.Given as goal
 
 abbrev pub invariant-loop-record : goal.invariant-loop-record
-invariant-loop-record l = Settling l.log (stage_in (table_of l.map)) l.at.0
+invariant-loop-record l = Settling l.log (stage_in (table_of l.noted.map.now)) l.at.0
 
 abbrev pub decreases-loop-record : goal.decreases-loop-record
 decreases-loop-record l = length l.log - l.at.0
