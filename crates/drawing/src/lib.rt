@@ -21,7 +21,7 @@ fn draw_record(mat: &mut [u8], nodes: &[u32], ranks: Ranks, r: Record)
         stamp,
         item,
         version,
-        value: _,
+        ..
     } = r
     else {
         return;
