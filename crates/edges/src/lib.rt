@@ -13,7 +13,7 @@ use numbers::{ITEMS, MAX_COMMITTED};
 // ---- reading
 
 // A graph whose edges are drawn: its matrix, and how many nodes it has.
-#[derive(Clone, Copy)]
+#[derive(Clone, Copy, Debug, PartialEq, Eq)]
 pub struct Graph<'a> {
     pub matrix: &'a [u8],
     pub count: usize,
@@ -36,7 +36,7 @@ impl Graph<'_> {
 
 // The ranks of the nodes' versions, 64 a node, one an item: one more than the place of the node's version among the item's versions,
 // oldest first, or 0 where it has none.
-#[derive(Clone, Copy)]
+#[derive(Clone, Copy, Debug, PartialEq, Eq)]
 pub struct Ranks<'a> {
     pub ranks: &'a [u16],
     pub count: usize,
@@ -45,7 +45,7 @@ pub struct Ranks<'a> {
 }
 
 // A node's version of the item that is read: its rank, 0 where the node has none.
-#[derive(Clone, Copy)]
+#[derive(Clone, Copy, Debug, PartialEq, Eq)]
 struct Version {
     node: usize,
     rank: u16,
