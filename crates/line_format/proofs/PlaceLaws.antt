@@ -70,3 +70,6 @@ module _ (s : List ℕ) (at : ℕ) (h : at < length s) where
 
 pub decimal_end : (s : List ℕ) (at : ℕ) → length s ≤ at → decimal_at s at ≡ None
 decimal_end s at h = rw (drop_of_length-le s h) (first_end at)
+
+-- what reading a decimal tests, case by case
+pub ruleset decimal_cases = (decimal_zero, decimal_more, decimal_none, decimal_end)

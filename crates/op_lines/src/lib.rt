@@ -29,6 +29,7 @@ fn more_digits(line: &[u8], from: usize, first: u32) -> Option<(u32, usize)>
 }
 
 // The decimal at a place of a line, with the place after it, or none. No digit goes on after a first 0.
+#[tactic(auto, using(line_format::proofs::PlaceLaws::decimal_cases))]
 fn decimal_at(line: &[u8], at: usize) -> Option<(u32, usize)>
     ensures { result ≡ decimal_at line.now at }
 {
