@@ -1,7 +1,7 @@
 // The line that tells the verdict on a log and a version order.
 #![tactic(auto)]
 
-ghost use Rattle.std.specs.Prelude.{◌+◌, ◌*◌, ◌≤◌, length};
+ghost use Rattle.std.specs.Prelude.{◌≡◌, ◌+◌, ◌*◌, ◌≤◌, length};
 ghost use Rattle.line_format.specs.Decimals.{digits};
 ghost use Rattle.reply_lines.specs.Written.{Put, Written};
 ghost use Rattle.order_rules.specs.Reading.{stamps_at};
@@ -11,26 +11,29 @@ ghost use Rattle.verdict_line.specs.Told.{line_of, Few};
 
 use checker_rules::Refusal;
 use graph_theory::Verdict;
+use reply_lines::Line;
 
-// Writes a number after a space at a place where it fits, and answers the place after it.
-fn put_spaced(out: &mut [u8], at: usize, n: u64) -> usize
-    requires { at + 1 + length (digits n) ≤ length out.old }
-    ensures { Put out.old at (spaced n) result out.new }
+// Writes a number after a space where it fits.
+fn put_spaced(line: &mut Line, n: u64)
+    requires { line.old.len + 1 + length (digits n) ≤ length line.old.out.now }
+    ensures same_buffer { line.new.out.ghost_name ≡ line.old.out.ghost_name }
+    ensures same_room { length line.new.out.now ≡ length line.old.out.now }
+    ensures put { Put line.old.out.now line.old.len (spaced n) line.new.len line.new.out.now }
 {
-    let a = reply_lines::put_word(out, at, b" ");
-    reply_lines::put_number(out, a, n)
+    line.word(b" ");
+    line.number(n);
 }
 
-// Writes the first n stamps of an answer, each after a space, at a place where they fit, and answers the place after them.
-fn put_stamps(out: &mut [u8], at: usize, answer: &[u8], n: usize) -> usize
-    requires { (4 * n ≤ length answer.now) × (at + 11 * n ≤ length out.old) }
-    ensures { Put out.old at (each_spaced (stamps_at answer.now 0 n)) result out.new }
+// Writes the first n stamps of an answer, each after a space, where they fit.
+fn put_stamps(line: &mut Line, answer: &[u8], n: usize)
+    requires { (4 * n ≤ length answer.now) × (line.old.len + 11 * n ≤ length line.old.out.now) }
+    ensures same_buffer { line.new.out.ghost_name ≡ line.old.out.ghost_name }
+    ensures same_room { length line.new.out.now ≡ length line.old.out.now }
+    ensures put { Put line.old.out.now line.old.len (each_spaced (stamps_at answer.now 0 n)) line.new.len line.new.out.now }
 {
-    let mut next = at;
     for i in 0..n {
-        next = put_spaced(out, next, u64::from(log_reader::be32(answer, 4 * i)));
+        put_spaced(line, u64::from(log_reader::be32(answer, 4 * i)));
     }
-    next
 }
 
 // Writes a word, the first n stamps of an answer and the newline from the front on, where they fit.
@@ -38,9 +41,11 @@ fn put_listed(out: &mut [u8], word: &[u8], answer: &[u8], n: usize) -> usize
     requires { (4 * n ≤ length answer.now) × (length word.now + 11 * n + 1 ≤ length out.old) }
     ensures { Put out.old 0 (listed word.now (stamps_at answer.now 0 n)) result out.new }
 {
-    let a = reply_lines::put_word(out, 0, word);
-    let b = put_stamps(out, a, answer, n);
-    reply_lines::put_word(out, b, b"\n")
+    let mut line = Line { out, len: 0 };
+    line.word(word);
+    put_stamps(&mut line, answer, n);
+    line.word(b"\n");
+    line.len
 }
 
 // Writes a refusal's code and number from the front on, where they fit.
@@ -48,10 +53,12 @@ fn put_refusal(out: &mut [u8], code: u32, number: usize) -> usize
     requires { 40 ≤ length out.old }
     ensures { Put out.old 0 (refusal code number) result out.new }
 {
-    let a = reply_lines::put_word(out, 0, b"refused");
-    let b = put_spaced(out, a, u64::from(code));
-    let c = put_spaced(out, b, number as u64);
-    reply_lines::put_word(out, c, b"\n")
+    let mut line = Line { out, len: 0 };
+    line.word(b"refused");
+    put_spaced(&mut line, u64::from(code));
+    put_spaced(&mut line, number as u64);
+    line.word(b"\n");
+    line.len
 }
 
 // Writes the line of a verdict whose stamps stand in an answer, where any such line fits.

@@ -3,5 +3,5 @@ use Rattle.std.proofs.Common.{arith}
 use Rattle.reply_lines.proofs.PutLaws.{put_then}
 use Rattle.verdict_line.proofs.put_spaced.Goals as goal
 
-pub returns : goal.returns
-returns c = put_then c.put_word-a.ensures c.put_number.ensures (omega arith)
+pub returns-clause-put : goal.returns-clause-put
+returns-clause-put c = put_then c.word.ensures.put c.number.ensures.put (omega arith)
