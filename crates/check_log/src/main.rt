@@ -8,7 +8,8 @@ use std::io::Read;
 use std::rt::Files;
 use std::{env, fs, io};
 
-// Reads until the buffer is full or the input ends, and says how many bytes were read: input that cannot be read on has ended.
+// Reads until the buffer is full or the input ends, and says how many bytes were read, which `read_exact` does not: input that cannot
+// be read on has ended.
 fn read_on<R: Read>(input: &mut R, buf: &mut [u8]) -> usize
     ensures { result ≤ length buf.new }
 {

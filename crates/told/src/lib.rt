@@ -25,7 +25,7 @@ pub fn hash_of<T: Copy + Into<u32>>(h: u64, row: &[T]) -> u64 {
     row.iter().fold(h, |h, &n| hashed(h, n.into()))
 }
 
-// Reads until the buffer is full or the input ends, and says how many bytes were read.
+// Reads until the buffer is full or the input ends, and says how many bytes were read, which `read_exact` does not.
 pub fn read_full<R: Read>(input: &mut R, buf: &mut [u8]) -> io::Result<usize>
     ensures { IfOk result (λ n. n ≤ length buf.new) }
 {
