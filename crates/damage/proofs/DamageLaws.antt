@@ -21,7 +21,7 @@ use Rattle.version_columns.specs.declared.Versions.{Versions}
 use Rattle.damage.specs.Damage.{after, row_sound, rows_sound, columns_sound, none_above, marks_sound, Undamaged}
 use Rattle.scheduler_rules.specs.Sound.{Sorted, Proper}
 use Rattle.version_columns.proofs.RowLaws.{Wide}
-use Rattle.damage.proofs.RowLaws.{Back, take-rows, rows_back, column_back, length-column, column-take, column-zeros}
+use Rattle.damage.proofs.RowLaws.{Back, take-rows, rows_back, column_back, column-take, column-zeros}
 
 -- ---- rows in order
 

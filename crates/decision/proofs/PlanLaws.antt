@@ -13,8 +13,8 @@ use Rattle.std.specs.Prelude.{Option, Some, None, Result, Ok, Err}
 use Rattle.lists.specs.Member.{◌∈◌}
 use Rattle.lists.proofs.ChoiceLaws.{cond_by}
 use Rattle.log_format.specs.Events.{size, aborts}
-use Rattle.scheduler_rules.specs.Model.{Version, Model, max_open, max_versions, initial, Waits, Wrote, dropped}
-use Rattle.scheduler_rules.specs.Table.{Good, answer, refuse, seen, overlaid, due, table, Row2, Row3, Row4, Row5, Row6, Row7, Row8, Row9, Row10}
+use Rattle.scheduler_rules.specs.Model.{Version, Model, max_open, max_versions, Waits, Wrote, dropped}
+use Rattle.scheduler_rules.specs.Table.{Good, answer, seen, overlaid, due, table, Row2, Row3, Row4, Row5, Row6, Row7, Row8, Row9, Row10}
 use Rattle.scheduler_rules.specs.declared.Op.{Op}
 use Rattle.scheduler_rules.specs.declared.Reply.{Reply}
 use Rattle.scheduler_rules.proofs.Rows.{

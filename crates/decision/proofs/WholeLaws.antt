@@ -7,7 +7,7 @@ use mathlib.Core.Bool.{Bool, true, false}
 use mathlib.Core.List.{List}
 use lib.ListN.{length}
 use borrow.Author.Tests.{leb-true, le-leb}
-use Rattle.std.specs.Prelude.{Result, Ok, Err}
+use Rattle.std.specs.Prelude.{Result, Err}
 use Rattle.log_format.specs.Whole.{max_log}
 use Rattle.scheduler_rules.specs.Model.{Model, max_open}
 use Rattle.scheduler_rules.specs.Table.{Good}
@@ -27,7 +27,7 @@ use Rattle.decision.specs.declared.Plan.{Plan}
 use Rattle.decision.specs.declared.Refusal.{Refusal}
 use Rattle.decision.specs.declared.Refusal.TheVariants.{Damaged}
 use Rattle.decision.specs.Kind.{number_of}
-use Rattle.decision.specs.Decided.{model_of, undamaged_in, Whole, CanDecide, Decided, PlanIs}
+use Rattle.decision.specs.Decided.{undamaged_in, Whole, CanDecide, Decided, PlanIs}
 
 -- a damaged state, and one that is not
 pub plan_damaged : {room : ℕ} {op : Op} {m : Model} {b : Bool} → b ≡ false → PlanIs room op b m (Err Damaged)

@@ -1,7 +1,6 @@
 -- What a plan means for the model: the outcome of the reply table, and where in the columns it takes place.
 -- Assumes nothing.
-use Rattle.std.specs.Prelude.{ℕ, ◌+◌, ◌≤◌, ◌<◌, ◌≡◌, Bool, true, false, ◌&&◌, List, [], ◌∷◌, leb, length, get_or, Option, Some, None, Result, Ok, Err, IfOk}
-use Rattle.log_format.specs.Whole.{max_log}
+use Rattle.std.specs.Prelude.{ℕ, ◌+◌, ◌≤◌, ◌<◌, ◌≡◌, Bool, true, false, ◌&&◌, List, [], ◌∷◌, leb, length, get_or, Some, None, Result, Ok, Err, IfOk}
 use Rattle.log_format.specs.Events.{Event, begins, reads, writes, commits, aborts, size}
 use Rattle.scheduler_rules.specs.Model.{Model, max_open, max_versions, initial, Same, Wrote, begun, got, stored, ended, dropped}
 use Rattle.scheduler_rules.specs.Table.{Outcome, Good, table}

@@ -1,6 +1,5 @@
 -- `decision::decide` meets its contract: each return is the plan of one kind, and the law of that plan says that it is the table's.
-use Rattle.std.proofs.Common.{◌≡◌, ◌∙◌, ℕ, sym, ap, arith}
-use Rattle.decision.specs.declared.Kind.{Kind}
+use Rattle.std.proofs.Common.{◌≡◌, ◌∙◌, sym, ap, arith}
 use Rattle.decision.specs.Kind.{number_of}
 use Rattle.decision.proofs.PlanLaws.{begin_decided, commit_decided, abort_decided, read_decided, write_decided}
 use Rattle.decision.proofs.GoodLaws.{item_low}

@@ -1,5 +1,5 @@
 -- Each answer is one law over ready columns, at the place that `place_of` gave.
-use Rattle.std.proofs.Common.{◌≡◌, suc, arith}
+use Rattle.std.proofs.Common.{arith}
 use Rattle.version_columns.proofs.AnswerLaws.{answers_held, answers_other, answers_first}
 use Rattle.version_columns.proofs.RowLaws.{Wide}
 use Rattle.version_columns.proofs.Versions.choose.Goals as goal

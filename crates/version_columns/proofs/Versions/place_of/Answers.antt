@@ -1,7 +1,6 @@
-use Rattle.std.proofs.Common.{◌+◌, ◌-◌, ◌/◌, ◌∙◌, arith, rules, IsTrue}
-use Rattle.version_columns.proofs.Bracket.{bracket_start, bracket_up, bracket_down, bracket_end}
+use Rattle.std.proofs.Common.{◌+◌, ◌-◌, ◌/◌, ◌∙◌, arith, rules}
+use Rattle.version_columns.proofs.Bracket.{bracket_up, bracket_down, bracket_end}
 use Rattle.version_columns.proofs.RowLaws.{Wide, up_to_columns, ready_rising}
-use Rattle.version_columns.specs.declared.Versions.{Versions}
 use Rattle.version_columns.proofs.Versions.place_of.Goals as goal
 
 pub loop-lo-preserved-then-is_up_to : goal.loop-lo-preserved-then-is_up_to

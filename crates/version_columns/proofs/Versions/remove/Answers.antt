@@ -1,4 +1,4 @@
-use Rattle.std.proofs.Common.{◌≡◌, ◌≤◌, List, ℕ, length, sym, ◌∙◌, arith, refl}
+use Rattle.std.proofs.Common.{◌≤◌, List, ℕ, length, sym, ◌∙◌, arith}
 use Rattle.version_columns.specs.Change.{Without}
 use Rattle.version_columns.proofs.Joined.{versions_eq}
 use Rattle.version_columns.proofs.Narrow.{Narrowing, narrowing_from, first_some, first_none}
