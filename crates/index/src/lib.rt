@@ -43,6 +43,7 @@ pub fn get(map: &[u64], k: u64) -> u64
 }
 
 // A new row with the number v for the key k, whether or not the key has one. It walks no chain.
+#[tactic(auto, unfolding(crate::specs::Index::Room))]
 pub fn push(map: &mut [u64], k: u64, v: u64)
     requires { (Table map.old) × Room 1 map.old }
     ensures { Pushed map.old k v map.new }
