@@ -12,14 +12,10 @@ use lib.Seq.{get_or-take, length-take-le}
 use borrow.Author.Tests.{eqb-true, eqb-false}
 use Rattle.numbers.specs.Numbers.{max_item}
 use Rattle.lists.specs.Member.{◌∈◌}
-use Rattle.log_format.specs.Events.{Event, reads, event_of}
+use Rattle.log_format.specs.Events.{Event, reads}
 use Rattle.log_format.specs.Told.{Done}
-use Rattle.log_format.specs.declared.Record.{Record}
-use Rattle.log_format.specs.declared.Stamp.{Stamp}
-use Rattle.log_format.specs.declared.Record.TheVariants.{Begin, Read, Write, Commit, Abort}
 use Rattle.log_format.proofs.ToldLaws.{got_is}
 use Rattle.serial_theory.specs.Edges.{Regular, VersionOrder}
-use Rattle.serial_theory.specs.EdgeTest.{by_read}
 use Rattle.serial_theory.proofs.CommittedLaws.{committed_is}
 use Rattle.serial_theory.proofs.RegularLaws.{read_item}
 use Rattle.edges.specs.Matrix.{most_nodes}
@@ -31,30 +27,12 @@ use Rattle.sorted.specs.Sorted.{Located, StandsAt}
 use Rattle.std.specs.Prelude.{Option, Some, None, unwrap_or}
 use Rattle.drawing.specs.Drawing.{DrewEvent}
 
--- r is no read
-abbrev NoRead : Record → Type 0
-NoRead r = (k : Stamp) (x : ℕ) (j : Stamp) (v : ℕ) → r ≡ Read k x j v → ⊥
-
-no_read : (log : List Event) (vs : ℕ → List ℕ) (a b : ℕ) (r : Record) → NoRead r → by_read log vs a b (event_of r) ≡ false
-no_read log vs a b (Begin t) n = refl
-no_read log vs a b (Read t x j v) n = absurd (n t x j v refl)
-no_read log vs a b (Write t x v) n = refl
-no_read log vs a b (Commit t) n = refl
-no_read log vs a b (Abort t c) n = refl
-
 -- a stamp that is none of the nodes is not committed
 not_done : (log : List Event) (vs : ℕ → List ℕ) (nodes rank : List ℕ) (count : ℕ) → Ranked log vs nodes rank count → (t : ℕ)
     → ¬ (t ∈ take count nodes) → ¬ Done t log
 not_done log vs nodes rank count r t n d = n (subst (λ (l : List ℕ). t ∈ l) (sym r.all) ((committed_is log t).1 d))
 
 module _ (nodes rank : List ℕ) (count : ℕ) (m : List ℕ) where
-  -- a record of another kind
-  pub other_drawn : (r : Record) → NoRead r → DrewEvent nodes rank count (event_of r) m m
-  other_drawn r n = record {
-    size = refl;
-    edges = λ log vs part g vo rk i h. edges_skip log vs nodes count (event_of r) part m (λ a b. no_read log vs a b r n) h;
-  }
-
   module _ (k x j v : ℕ) where
     -- a read whose reader is none of the nodes
     pub unfinished_drawn : ¬ (k ∈ take count nodes) → DrewEvent nodes rank count (reads k x j v) m m

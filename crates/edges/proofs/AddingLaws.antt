@@ -1,4 +1,4 @@
--- Edges added one after the other: nothing added, two lots joined, and then the versions beside a read, node by node.
+-- Edges added one after the other: two lots joined, and then the versions beside a read, node by node.
 -- Assumes nothing.
 use Prim.Native.Nat.{ℕ, ◌+◌, ◌*◌, ◌≤◌, ◌<◌}
 use native.Mathlib.Omega.{arith}
@@ -12,9 +12,6 @@ use borrow.Author.Tests.{eqb-true, eqb-false}
 use Rattle.edges.specs.Matrix.{most_nodes, matrix_size, with_edge}
 use Rattle.edges.specs.Adding.{Adds, One, comes_before, comes_after, Others}
 use Rattle.edges.proofs.MatrixLaws.{one_more}
-
-pub no_more : (R : ℕ → ℕ → Type 0) (m : List ℕ) → ((c d : ℕ) → ¬ R c d) → Adds R m m
-no_more R m f = record { size = refl; kept = λ c d x y e. e; sets = λ c d x y r. absurd (f c d r); only = λ c d x y e. inl e }
 
 -- the same edges, said otherwise
 pub adds_same : (R S : ℕ → ℕ → Type 0) (m e : List ℕ) → ((c d : ℕ) → R c d → S c d) → ((c d : ℕ) → S c d → R c d) → Adds R m e → Adds S m e
@@ -37,30 +34,6 @@ adds_join R S m e g x y = record {
 -- ---- the version of one node
 
 module _ (m : List ℕ) (i p k j r : ℕ) where
-  none_if : ((c d : ℕ) → One i p k j r c d → ⊥) → Adds (One i p k j r) m m
-  none_if f = no_more (One i p k j r) m f
-
-  pub one_own : i ≡ k → Adds (One i p k j r) m m
-  one_own e = none_if none
-    where
-      none : (c d : ℕ) → One i p k j r c d → ⊥
-      none c d (comes_before n q h) = n e
-      none c d (comes_after n q h) = n e
-
-  pub one_absent : p ≡ 0 → Adds (One i p k j r) m m
-  one_absent e = none_if none
-    where
-      none : (c d : ℕ) → One i p k j r c d → ⊥
-      none c d (comes_before n q h) = omega arith
-      none c d (comes_after n q h) = omega arith
-
-  pub one_read : r ≤ p → p ≤ r → Adds (One i p k j r) m m
-  one_read u v = none_if none
-    where
-      none : (c d : ℕ) → One i p k j r c d → ⊥
-      none c d (comes_before n q h) = omega arith
-      none c d (comes_after n q h) = omega arith
-
   module _ (s : matrix_size ≤ length m) (w : i < most_nodes) (n : i ≢ k) (q : p ≢ 0) where
     pub one_before : j < most_nodes → p < r → Adds (One i p k j r) m (with_edge m i j)
     one_before v h = one_more m i j s w v (One i p k j r) only (comes_before n (omega (arith, q)) h)
@@ -79,9 +52,6 @@ module _ (m : List ℕ) (i p k j r : ℕ) where
 -- ---- the versions of the nodes below t
 
 module _ (rank : List ℕ) (x k j r : ℕ) (m : List ℕ) where
-  pub others_none : Adds (Others rank x k j r 0) m m
-  others_none = no_more (Others rank x k j r 0) m (λ c d o. let z = o.1 in omega arith)
-
   pub others_next : (t : ℕ) (e g : List ℕ) → Adds (Others rank x k j r t) m e → Adds (One t (get_or rank (t * 64 + x) 0) k j r) e g
       → Adds (Others rank x k j r (t + 1)) m g
   others_next t e g y z =

@@ -14,7 +14,7 @@ use borrow.Author.Tests.{lt-ltb, le-ltb, ltb-true, ltb-false}
 use Rattle.lists.specs.Member.{◌∈◌}
 use Rattle.lists.specs.Order.{Distinct, Before}
 use Rattle.lists.proofs.TestLaws.{same_test}
-use Rattle.lists.proofs.PlaceLaws.{at_in, in_at, before_at, at_before, distinct_at}
+use Rattle.lists.proofs.PlaceLaws.{at_in, before_at, at_before, distinct_at}
 use Rattle.lists.proofs.RisingLaws.{rising_distinct}
 use Rattle.log_format.specs.Events.{Event, reads}
 use Rattle.log_format.specs.Told.{Put, Puts, Done}
@@ -47,12 +47,6 @@ module _ (log : List Event) (vs : ℕ → List ℕ) (ss rank : List ℕ) (count 
   pub node_done : (i : ℕ) → i < count → Done (node i) log
   node_done i h =
       (committed_is log (node i)).0 (subst (λ (t : ℕ). t ∈ committed log) (node_at i h) (at_in (committed log) i (omega (arith, committed_count))))
-
-  pub done_node : (t : ℕ) → Done t log → (i : ℕ) × (i < count) × (node i ≡ t)
-  done_node t d =
-      let p = in_at (committed log) t ((committed_is log t).1 d) in
-      let h : p.0 < count = omega (arith, p.1, committed_count) in
-      (p.0, h, sym (node_at p.0 h) ∙ p.2)
 
   -- different nodes have different stamps
   pub same_node : (a b : ℕ) → a < count → b < count → node a ≡ node b → a ≡ b

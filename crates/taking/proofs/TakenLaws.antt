@@ -11,7 +11,7 @@ use mathlib.Core.Bool.{Bool, true, false, not}
 use mathlib.Core.Option.{some, none}
 use lib.Dec.{eqb}
 use lib.ListN.{length, take, get_or, set, length-set}
-use lib.Seq.{get_or-set_same, get_or-set_other, take-suc-set}
+use lib.Seq.{take-suc-set}
 use borrow.Author.Tests.{eqb-true, eqb-false, eq-eqb, ne_eqb}
 use Rattle.lists.specs.Member.{◌∈◌}
 use Rattle.lists.specs.Order.{without}
@@ -46,20 +46,6 @@ pub record Count (E : ℕ → ℕ → Bool) (n : ℕ) (d : List ℕ) (k : ℕ) (
   pub size : length e ≡ length d
   pub done : (i : ℕ) → i < k → get_or e i 0 ≡ suc (tally (λ (j : ℕ). E j i) (indices n))
 
-module _ (E : ℕ → ℕ → Bool) (n : ℕ) (d : List ℕ) where
-  pub count_none : n ≤ length d → Count E n d 0 d
-  count_none h = record { within = omega arith; room = h; size = refl; done = λ i h. absurd (omega arith) }
-
-  pub count_next : (k : ℕ) (e : List ℕ) (r : ℕ) → k < n → r ≡ tally (λ (j : ℕ). E j k) (indices n) → Count E n d k e → Count E n d (k + 1) (set e k (r + 1))
-  count_next k e r h q l = record { within = omega arith; room = simp length-set l.room; size = simp length-set l.size; done = λ i g. go i g (eqb i k) refl }
-    where
-      at : k < length e
-      at = omega arith
-
-      go : (i : ℕ) → i < k + 1 → (b : Bool) → eqb i k ≡ b → get_or (set e k (r + 1)) i 0 ≡ suc (tally (λ (j : ℕ). E j i) (indices n))
-      go i g true f = rw (eqb-true i k f, get_or-set_same e k (r + 1) 0 at, q) (add-one _)
-      go i g false f = let z = eqb-false i k f in get_or-set_other e k i (r + 1) 0 z ∙ l.done i (omega (arith, z))
-
 -- ---- taking one node
 
 -- the numbers of the nodes below j are less by their edges from k, and the others are as they were
@@ -69,46 +55,6 @@ pub record Lower (E : ℕ → ℕ → Bool) (n k : ℕ) (d : List ℕ) (j : ℕ)
   pub size : length e ≡ length d
   pub done : (i : ℕ) → i < j → get_or e i 0 ≡ get_or d i 0 - bit (E k i)
   pub rest : (i : ℕ) → j ≤ i → get_or e i 0 ≡ get_or d i 0
-
-module _ (E : ℕ → ℕ → Bool) (n k : ℕ) (d : List ℕ) where
-  pub lower_none : n ≤ length d → Lower E n k d 0 d
-  lower_none h = record { within = omega arith; room = h; size = refl; done = λ i h. absurd (omega arith); rest = λ i h. refl }
-
-  pub lower_next : (j : ℕ) (e : List ℕ) (v : ℕ) → j < n → v ≡ get_or e j 0 - bit (E k j) → Lower E n k d j e → Lower E n k d (j + 1) (set e j v)
-  lower_next j e v h q l = record {
-    within = omega arith;
-    room = simp length-set l.room;
-    size = simp length-set l.size;
-    done = λ i g. go i g (eqb i j) refl;
-    rest = λ i g. get_or-set_other e j i v 0 (λ z. omega arith) ∙ l.rest i (omega arith);
-  }
-    where
-      at : j < length e
-      at = omega arith
-
-      go : (i : ℕ) → i < j + 1 → (b : Bool) → eqb i j ≡ b → get_or (set e j v) i 0 ≡ get_or d i 0 - bit (E k i)
-      go i g true f = rw (eqb-true i j f, get_or-set_same e j v 0 at, q, l.rest j (omega arith)) refl
-      go i g false f = let z = eqb-false i j f in get_or-set_other e j i v 0 z ∙ l.done i (omega (arith, z))
-
-  -- a node without an edge from k
-  pub lower_skip : (j : ℕ) (e : List ℕ) → j < n → E k j ≡ false → Lower E n k d j e → Lower E n k d (j + 1) e
-  lower_skip j e h q l = record {
-    within = omega arith;
-    room = l.room;
-    size = l.size;
-    done = λ i g. go i g (eqb i j) refl;
-    rest = λ i g. l.rest i (omega arith);
-  }
-    where
-      go : (i : ℕ) → i < j + 1 → (b : Bool) → eqb i j ≡ b → get_or e i 0 ≡ get_or d i 0 - bit (E k i)
-      go i g true f = rw (eqb-true i j f, q, l.rest j (omega arith)) (omega arith)
-      go i g false f = let z = eqb-false i j f in l.done i (omega (arith, z))
-
-  pub lower_all : (j : ℕ) (e : List ℕ) → k < n → n ≤ j → Lower E n k d j e → Lowered E n k d (set e k 0)
-  lower_all j e h g l = record {
-    gone = get_or-set_same e k 0 0 (omega arith);
-    others = λ i f z. get_or-set_other e k i 0 0 z ∙ l.done i (omega arith);
-  }
 
 -- ---- the theory's step
 
@@ -226,8 +172,3 @@ module _ (E : ℕ → ℕ → Bool) (n : ℕ) where
     taking_stop s =
         let z = take_end E (left_of n d) (no_next E n d v.tallied s) in
         record { count = omega (arith, v.count); taken = sym (v.taken ∙ rw z.0 (append-nil (take c o))); left = sym (v.left ∙ z.1) }
-
-    pub taking_full : n ≤ c → Taken E n o d c
-    taking_full h =
-        let z : left_of n d ≡ [] = empty (left_of n d) (omega (arith, v.count)) in
-        record { count = omega (arith, v.count); taken = sym (v.taken ∙ rw z (append-nil (take c o))); left = sym (v.left ∙ rw z refl) }
