@@ -3,10 +3,10 @@
 -- Assumes nothing.
 use Prim.Native.Nat.{ℕ, ◌*◌, ◌≤◌, ◌<◌}
 use native.Mathlib.Omega.{arith}
-use mathlib.Core.Path.{◌≡◌, refl, sym, ap, ◌∙◌, subst}
+use mathlib.Core.Path.{◌≡◌, refl, sym, ap, ◌∙◌}
 use mathlib.Core.List.{List}
 use mathlib.Core.Bool.{Bool, true, false}
-use lib.ListN.{length, take, get_or, replicate, length-replicate, get_or-replicate}
+use lib.ListN.{length, get_or, replicate, length-replicate, get_or-replicate}
 use Rattle.numbers.specs.Numbers.{items, max_committed}
 use Rattle.log_format.specs.Bytes.{Bytes, stamp_bytes, splice}
 use Rattle.history_rules.specs.Held.{written_in}
@@ -23,7 +23,6 @@ use Rattle.version_order.specs.Judging.{Ranked as Judged-as-Ranked}
 use Rattle.drawing.specs.Drawing.{Tables}
 use Rattle.graph.specs.Answer.{Answered, found_of}
 use Rattle.graph_theory.specs.declared.Verdict.{Verdict as Counted}
-use Rattle.graph_theory.specs.declared.Verdict.TheVariants.{Accepted as Verdict-as-Accepted, Cycle as Verdict-as-Cycle}
 use Rattle.checker_rules.specs.Answers.{CheckIs, judged, answer_for, checked_of, stamps_for}
 use Rattle.std.specs.Prelude.{Ok, Err}
 use lib.Seq.{take-length}

@@ -10,7 +10,7 @@ ghost use Rattle.order_rules.specs.Fields.{bytes2, body_of};
 ghost use Rattle.order_rules.specs.Timestamps.{versions_by, order_by, Wrote};
 ghost use Rattle.order_writer.specs.Writing.{size_of, stamp_if, field_bytes, Placed};
 
-use log_writer::put4;
+use log_writer::put_bytes;
 use order_rules::NoRoom;
 use version_order::Committed;
 
@@ -60,11 +60,8 @@ fn put_front(out: &mut [u8], at: usize, item: u8, versions: usize)
     requires { (at + 4 ≤ length out.old) × (versions ≤ most_committed) }
     ensures { out.new ≡ splice out.old at (32 ∷ bytes2 (body_of versions) ++ (item ∷ [])) }
 {
-    let body = 1 + 4 * versions;
-    out[at] = TAG;
-    out[at + 1] = (body / 256 % 256) as u8;
-    out[at + 2] = (body % 256) as u8;
-    out[at + 3] = item;
+    let [high, low] = (1 + 4 * versions as u16).to_be_bytes();
+    put_bytes(out, at, &[TAG, high, low, item]);
 }
 
 // The stamp's four bytes, if it wrote the item; the place after them.
@@ -73,8 +70,7 @@ fn put_if(committed: &Committed, stamp: u32, item: u8, out: &mut [u8], at: usize
     ensures { Placed out.old at (stamp_if (written_in (table_of committed.now.map.now)) item stamp) result out.new }
 {
     if committed.wrote(stamp, item) {
-        put4(out, at, stamp);
-        return at + 4;
+        return put_bytes(out, at, &stamp.to_be_bytes());
     }
     at
 }

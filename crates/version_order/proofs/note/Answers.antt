@@ -1,14 +1,10 @@
 -- `version_order::note` meets its contract: what stands in the cell and in the map decides; the rank is one store.
-use Rattle.version_order.proofs.NoteLaws.{located_rank, not_a_node, not_written, noted_twice, noted_new}
+use Rattle.version_order.proofs.NoteLaws.{located_rank, not_a_node, noted_twice, noted_new}
 use mathlib.Core.Path.{sym, ◌∙◌}
 use Rattle.version_order.proofs.note.Goals as goal
 
 pub returns-in_default : goal.returns-in_default
 returns-in_default c = not_a_node c.in_default.ensures
-
-pub returns-then-not-wrote : goal.returns-then-not-wrote
-returns-then-not-wrote c =
-    not_written c.in-Some.node (located_rank c.args.committed.now.rising c.in-Some.ensures) (sym c.wrote.ensures ∙ c.if-not-wrote.true)
 
 pub returns-then-rank-cell-ne0 : goal.returns-then-rank-cell-ne0
 returns-then-rank-cell-ne0 c =
