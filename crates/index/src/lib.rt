@@ -31,13 +31,13 @@ pub fn get(map: &[u64], k: u64) -> u64
     requires { Table map.now }
     ensures { result ≡ table_of map.now k }
 {
-    let mut p = map[bucket(k) + 1] as usize;
-    while 0 < p {
-        let at = ROWS + 3 * (p - 1);
+    let mut told = map[bucket(k) + 1] as usize;
+    while let Some(row) = told.checked_sub(1) {
+        let at = ROWS + 3 * row;
         if map[at] == k {
             return map[at + 2];
         }
-        p = map[at + 1] as usize;
+        told = map[at + 1] as usize;
     }
     0
 }
