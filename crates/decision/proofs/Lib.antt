@@ -1,3 +1,4 @@
+pub mod RoomLaws
 pub mod PlanLaws
 pub mod WholeLaws
 pub mod GoodLaws

@@ -187,10 +187,10 @@ pub struct Core {
 impl Core {
     // The plan with a reply and a record, if the record fits the room after the bytes used.
     fn plan(self, room: usize, reply: Reply, due: Due) -> Result<Plan, Refusal>
-        requires { self.used.0 ≤ 65536 }
         ensures { result ≡ fitting room self.used.0 reply due }
     {
-        if room < self.used.0 + due.size() {
+        let left = room.saturating_sub(self.used.0);
+        if left < due.size() {
             return Err(Refusal::NoRoom);
         }
         Ok(Plan { reply, due })
@@ -198,7 +198,6 @@ impl Core {
 
     // Begin: 3, 4, 10 or 0.
     fn plan_begin(self, room: usize, k: Stamp) -> Result<Plan, Refusal>
-        requires { self.used.0 ≤ 65536 }
         ensures { result ≡ begin_plan self.last.0 self.live.count k.0 self.used.0 room }
     {
         if k <= self.last {
@@ -223,7 +222,6 @@ impl Core {
 
     // Commit and abort, whose record is due: 5, 10 or 0.
     fn plan_end(self, room: usize, k: Stamp, due: Due) -> Result<Plan, Refusal>
-        requires { self.used.0 ≤ 65536 }
         ensures { result ≡ end_plan due (stamps_of self.live) k.0 self.used.0 room }
     {
         self.check_open(k)?;
@@ -232,7 +230,6 @@ impl Core {
 
     // Read by k of the version v: 5, 6, 10 or 0.
     fn plan_read(self, room: usize, k: Stamp, v: Chosen) -> Result<Plan, Refusal>
-        requires { self.used.0 ≤ 65536 }
         ensures { result ≡ read_plan v (stamps_of self.live) k.0 self.used.0 room }
     {
         self.check_open(k)?;
@@ -249,7 +246,6 @@ impl Core {
 
     // Write by k over the version v, where so many are held: 5, 7, 9, 10, 8 or 0.
     fn plan_write(self, room: usize, k: Stamp, v: Chosen, count: usize) -> Result<Plan, Refusal>
-        requires { self.used.0 ≤ 65536 }
         ensures { result ≡ write_plan v count (stamps_of self.live) k.0 self.used.0 room }
     {
         self.check_open(k)?;
