@@ -2,6 +2,7 @@
 -- Assumes nothing.
 use Prim.Native.Nat.{ℕ, suc, ◌+◌, ◌-◌, ◌*◌, ◌≤◌, ◌<◌}
 use native.Mathlib.Numerals.{add-one}
+use native.Mathlib.Omega.{arith}
 use mathlib.Core.Path.{◌≡◌, refl, sym, ◌∙◌}
 use mathlib.Core.Bool.{Bool, true, false, cond, ◌&&◌}
 use mathlib.Core.List.{List, [], ◌∷◌}
@@ -10,11 +11,11 @@ use lib.Seq.{drop-cons}
 use lib.Dec.{leb, eqb}
 use borrow.Author.Tests.{eqb-true, eqb-false, eq-eqb, ne_eqb}
 use Rattle.std.specs.Char.{is_ascii_digit}
+use Rattle.std.specs.Bool.{then_some}
 use Rattle.std.specs.List.{starts_with}
-use Rattle.std.specs.Prelude.{Option, Some, None}
-use Rattle.scheduler_rules.specs.declared.Op.{Op}
+use Rattle.std.specs.Prelude.{Some, None, SomeIff}
 use Rattle.line_format.specs.Decimals.{most, is_digit, more_digits, decimal_at}
-use Rattle.line_format.specs.Lines.{starts, with_number, ended}
+use Rattle.line_format.specs.Lines.{starts}
 use Rattle.line_format.proofs.ReadingLaws.{more_next, more_over, more_stop, more_end, first_zero, first_more, first_none, first_end}
 
 -- ---- a word
@@ -30,9 +31,18 @@ starts_is (b ∷ s) (a ∷ w) = go (eqb a b) refl (starts_is s w)
     go true e h = rw (eq-eqb b a (sym (eqb-true _ _ e))) h
     go false e h = rw (ne_eqb b a (λ q. eqb-false _ _ e (sym q))) refl
 
--- so what it answered, ours answers
-pub word_found : {r x : Bool} (s w : List ℕ) → r ≡ starts_with eqb s w → r ≡ x → starts w s ≡ x
-word_found s w e f = sym (starts_is s w) ∙ sym e ∙ f
+-- the place after a word that the line begins with
+pub word_after : {r : Bool} (s w : List ℕ) (n : ℕ) → r ≡ starts_with eqb s w → SomeIff (then_some r n) (starts w s ≡ true) n
+word_after {r = true} s w n e = (sym (starts_is s w) ∙ sym e, refl)
+word_after {r = false} s w n e = λ t. let z : ◌≡◌ {A = Bool} false true = e ∙ starts_is s w ∙ t in let y : ◌≡◌ {A = ℕ} 0 1 = cc in absurd (omega arith)
+
+-- a line that does not begin with a word
+pub no_word : (s w : List ℕ) → ¬ (starts w s ≡ true) → starts w s ≡ false
+no_word s w h = go (starts w s) refl
+  where
+    go : (b : Bool) → starts w s ≡ b → starts w s ≡ false
+    go true e = absurd (h e)
+    go false e = e
 
 -- ---- a decimal
 

@@ -1,10 +1,10 @@
 // Reading operation lines: what a line of bytes asks.
 #![tactic(auto)]
 
-ghost use Rattle.std.specs.Prelude.{◌≡◌, ◌≤◌, length, drop};
+ghost use Rattle.std.specs.Prelude.{◌≡◌, ◌≤◌, true, length, drop, SomeIff};
 ghost use Rattle.scheduler_rules.specs.Run.{read, write};
 ghost use Rattle.line_format.specs.Decimals.{more_digits, decimal_at};
-ghost use Rattle.line_format.specs.Lines.{spaced_at, ended, stamp_op, one_number, two_numbers, three_numbers, parse_line};
+ghost use Rattle.line_format.specs.Lines.{starts, spaced_at, ended, stamp_op, one_number, two_numbers, three_numbers, parse_line};
 
 use line_format::LONGEST;
 use log_format::Stamp;
@@ -107,6 +107,13 @@ fn write_line(line: &[u8], at: usize) -> Option<Op>
     ended(line, end, op)
 }
 
+// The place after a keyword that the line begins with.
+fn after(line: &[u8], keyword: &[u8]) -> Option<usize>
+    ensures { SomeIff result (starts keyword.now line.now ≡ true) (length keyword.now) }
+{
+    line.starts_with(keyword).then_some(keyword.len())
+}
+
 // What a line asks: an operation, or none for a bad line, to which the reply is `no 2`. The line has no newline.
 #[tactic(auto, unfolding(line_format::specs::Lines::parse_line))]
 pub fn parse(line: &[u8]) -> Option<Op>
@@ -114,16 +121,16 @@ pub fn parse(line: &[u8]) -> Option<Op>
 {
     if line.len() > LONGEST {
         None
-    } else if line.starts_with(b"begin ") {
-        stamp_line(line, 6, 1)
-    } else if line.starts_with(b"read ") {
-        read_line(line, 5)
-    } else if line.starts_with(b"write ") {
-        write_line(line, 6)
-    } else if line.starts_with(b"commit ") {
-        stamp_line(line, 7, 4)
-    } else if line.starts_with(b"abort ") {
-        stamp_line(line, 6, 5)
+    } else if let Some(at) = after(line, b"begin ") {
+        stamp_line(line, at, 1)
+    } else if let Some(at) = after(line, b"read ") {
+        read_line(line, at)
+    } else if let Some(at) = after(line, b"write ") {
+        write_line(line, at)
+    } else if let Some(at) = after(line, b"commit ") {
+        stamp_line(line, at, 4)
+    } else if let Some(at) = after(line, b"abort ") {
+        stamp_line(line, at, 5)
     } else {
         None
     }
