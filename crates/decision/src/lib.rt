@@ -338,7 +338,8 @@ pub fn planned(
     versions: &Versions,
 ) -> Result<Plan, Refusal>
     requires { room ≤ 65536 }
-    ensures { PlanIs room op (undamaged_in core room marks.now versions.now) (model_of core marks.now versions.now) result }
+    ensures plan { PlanIs room op (undamaged_in core room marks.now versions.now) (model_of core marks.now versions.now) result }
+    ensures whole { IsTrue (undamaged_in core room marks.now versions.now) → Whole core room marks.now versions.now }
 {
     if !is_sound(core, room, marks, versions) {
         return Err(Refusal::Damaged);

@@ -52,9 +52,11 @@ fn abort(stamp: u32) -> Op {
 
 // ---- calls
 
-// One operation on the state that the call before gave.
+// One operation on a copy of the state that the call before left.
 fn next(o: Called, op: Op, log: &mut [u8]) -> Called {
-    scheduler::call(o.state, op, log)
+    let mut state = o.state;
+    let reply = state.call(op, log);
+    Called { state, reply }
 }
 
 // The reply and the bytes used, under a name.

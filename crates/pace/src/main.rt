@@ -4,7 +4,7 @@
 #![tactic(auto)]
 
 use log_format::Stamp;
-use scheduler::Called;
+use scheduler::State;
 use scheduler_rules::{Op, Reply};
 use std::io;
 use std::io::Read;
@@ -31,19 +31,18 @@ fn decimal(text: &[u8]) -> u64 {
 }
 
 // 1,000 versions, 64 to a transaction, all committed.
-fn fill(first: Called, log: &mut [u8]) -> Called {
-    let mut o = first;
+fn fill(state: &mut State, log: &mut [u8]) {
     for i in 0..1000 {
         let stamp = i / 64 + 1;
         if i % 64 == 0 {
-            o = scheduler::call(o.state, operation(1, stamp, 0, 0), log);
+            state.call(operation(1, stamp, 0, 0), log);
         }
-        o = scheduler::call(o.state, operation(3, stamp, i % 64, i), log);
+        state.call(operation(3, stamp, i % 64, i), log);
         if i % 64 == 63 {
-            o = scheduler::call(o.state, operation(4, stamp, 0, 0), log);
+            state.call(operation(4, stamp, 0, 0), log);
         }
     }
-    scheduler::call(o.state, operation(4, 16, 0, 0), log)
+    state.call(operation(4, 16, 0, 0), log);
 }
 
 // The next number of a simple row.
@@ -79,21 +78,19 @@ fn turned(turn: u64, stamp: u32) -> u32 {
     stamp
 }
 
-fn measured(first: Called, n: u64, log: &mut [u8]) -> u64 {
-    let mut o = first;
-    let base = o.state.core.used.0;
-    let mut stamp = o.state.core.last.0;
+fn measured(state: &mut State, n: u64, log: &mut [u8]) -> u64 {
+    let base = state.core.used.0;
+    let mut stamp = state.core.last.0;
     let mut sum: u64 = 0;
     let mut x: u32 = 1;
     for i in 0..n {
         stamp = turned(i % 5, stamp);
         let op = chosen(i % 5, stamp, x);
         x = shaken(x);
-        o.state.core.used.0 = rewound(o.state.core.used.0, base);
-        o = scheduler::call(o.state, op, log);
-        sum = folded(sum, o.reply);
+        state.core.used.0 = rewound(state.core.used.0, base);
+        sum = folded(sum, state.call(op, log));
     }
-    sum % 1000000007 + (o.state.versions.count % 4096) as u64
+    sum % 1000000007 + (state.versions.count % 4096) as u64
 }
 
 fn main(rt: HostRuntime) -> io::Result<()> {
@@ -101,8 +98,10 @@ fn main(rt: HostRuntime) -> io::Result<()> {
     rt.stdin().take(16).read_to_end(&mut text)?;
     let n = decimal(text.as_slice());
     let mut log = [0u8; 65536];
-    let o = scheduler::fresh(&mut log);
-    let p = if n % 10 != 0 { fill(o, &mut log) } else { o };
-    let sum = measured(p, n, &mut log);
+    let mut state = scheduler::fresh(&mut log).state;
+    if n % 10 != 0 {
+        fill(&mut state, &mut log);
+    }
+    let sum = measured(&mut state, n, &mut log);
     println!(rt; "{sum}")
 }

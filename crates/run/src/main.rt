@@ -60,9 +60,8 @@ fn serve<R: Read, W: Write>(
             out.write_all(&said[..n])?;
             continue;
         };
-        let called = scheduler::call(state, op, log);
-        state = called.state;
-        let n = reply_lines::write_reply(op, called.reply, &mut said);
+        let reply = state.call(op, log);
+        let n = reply_lines::write_reply(op, reply, &mut said);
         out.write_all(&said[..n])?;
     }
     Ok(state.core.used.0)

@@ -9,6 +9,7 @@ use Rattle.scheduler_rules.specs.Sound.{Sound}
 use Rattle.open_table.proofs.TableLaws.{stamps_of_table}
 use Rattle.version_columns.proofs.RowLaws.{Wide, versions_columns}
 use Rattle.decision.specs.declared.Core.{Core}
+use Rattle.decision.specs.Decided.{Whole}
 use Rattle.decision.proofs.WholeLaws.{undamaged_whole, whole_undamaged}
 use Rattle.scheduler.specs.declared.State.{State}
 use Rattle.scheduler.specs.State.{abs, state_of, undamaged, Undamaged, Full}
@@ -28,11 +29,14 @@ pub abs_state : (m : Model) → abs (state_of m) ≡ m
 abs_state m = model_eq refl (stamps_of_table m.live) (versions_columns m.held) refl refl
 
 module _ (s : State) (room : ℕ) where
+  -- the whole of the small part, the marks and the versions is the whole state
+  pub whole_state : Whole s.core room s.marks s.versions → Undamaged s room
+  whole_state r = record { sound = r.sound; is = state_eq (core_eq refl refl r.table) refl r.columns; within = r.within }
+
   pub undamaged_is : Full s → room ≤ max_log → undamaged s room ≡ true → Undamaged s room
   undamaged_is f small h =
       let w : Wide s.versions = record { items = f.items; stamps = f.stamps; values = f.values; marks = f.readers } in
-      let r = undamaged_whole s.core room s.marks s.versions f.opens f.marks w small h in
-      record { sound = r.sound; is = state_eq (core_eq refl refl r.table) refl r.columns; within = r.within }
+      whole_state (undamaged_whole s.core room s.marks s.versions f.opens f.marks w small h)
 
   pub is_undamaged : Undamaged s room → undamaged s room ≡ true
   is_undamaged u =

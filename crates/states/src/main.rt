@@ -11,8 +11,8 @@ ghost use Rattle.std.specs.Prelude.{◌+◌, ◌≤◌};
 use decision::Core;
 use log_format::{Place, Stamp};
 use open_table::OpenTable;
-use scheduler::{Called, State};
-use scheduler_rules::Op;
+use scheduler::State;
+use scheduler_rules::{Op, Reply};
 use std::io;
 use std::io::{BufReader, BufWriter, Read, Write};
 use version_columns::Versions;
@@ -92,9 +92,8 @@ fn hash_of_state(state: &State) -> u64 {
         .fold(open, |h, column| told::hash_of(h, column))
 }
 
-// What a call gave, and the buffer that it left.
-fn tell<W: Write>(out: &mut W, called: Called, log: &[u8]) -> io::Result<()> {
-    let Called { state, reply } = called;
+// What a call answered, and the state and the buffer that it left.
+fn tell<W: Write>(out: &mut W, reply: Reply, state: &State, log: &[u8]) -> io::Result<()> {
     writeln!(
         out,
         "{} {} {} {} {} {} {} {} {}",
@@ -105,7 +104,7 @@ fn tell<W: Write>(out: &mut W, called: Called, log: &[u8]) -> io::Result<()> {
         state.core.used.0,
         state.core.live.count,
         state.versions.count,
-        hash_of_state(&state),
+        hash_of_state(state),
         told::hash_of(1, log),
     )
 }
@@ -132,7 +131,7 @@ fn put_case<R: Read, W: Write>(
         held,
     ]: [u32; 10] = numbers(front);
     let tables = read_tables(input, settings)?;
-    let state = State {
+    let mut state = State {
         core: Core {
             last: Stamp(last),
             used: Place(used as usize),
@@ -149,7 +148,8 @@ fn put_case<R: Read, W: Write>(
     };
     if let Some(log) = log.get_mut(..room as usize) {
         told::fill(log);
-        tell(out, scheduler::call(state, op, log), log)?;
+        let reply = state.call(op, log);
+        tell(out, reply, &state, log)?;
     }
     out.flush()
 }

@@ -9,7 +9,10 @@ pub returns-in_err-kind : goal.returns-in_err-kind
 returns-in_err-kind c =
     let bad = c.in_err-kind.ensures.err in
     let refused : c.from_residual.result ≡ Err Malformed = search rules in
-    rw refused (plan_decided (sym c.is_sound.ensures.is ∙ c.if-not-is_sound.false) (bad_decided _ _ _ bad.1))
+    record {
+      plan = rw refused (plan_decided (sym c.is_sound.ensures.is ∙ c.if-not-is_sound.false) (bad_decided _ _ _ bad.1));
+      whole = λ h. c.is_sound.ensures.whole (c.is_sound.ensures.is ∙ h);
+    }
 
 pub decide-requires : goal.decide-requires
 decide-requires c =
