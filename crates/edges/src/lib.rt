@@ -2,7 +2,7 @@
 // committed transaction's number, counted by rising stamps.
 #![tactic(auto)]
 
-ghost use Rattle.std.specs.Prelude.{◌≡◌, ◌+◌, ◌*◌, ◌≤◌, ◌<◌, length, get_or, unwrap_or, IfSome};
+ghost use Rattle.std.specs.Prelude.{◌≡◌, ◌+◌, ◌*◌, ◌≤◌, ◌<◌, length, get_or, unwrap_or};
 ghost use Rattle.numbers.specs.Numbers.{items};
 ghost use Rattle.edges.specs.Matrix.{most_nodes, matrix_size, edge_at, with_edge};
 ghost use Rattle.edges.specs.Drawn.{Drew};
@@ -114,21 +114,17 @@ pub fn draw_read(mat: &mut [u8], ranks: Ranks, k: usize, source: Option<usize>, 
     requires matrix_fits { matrix_size ≤ length mat.old }
     requires its_item { item < items }
     requires reader_node { k < ranks.count }
-    requires source_node { IfSome source (λ j. j < ranks.count) }
     ensures { Drew ranks.entry.ranks.now ranks.entry.count k item (unwrap_or source ranks.entry.count) mat.old mat.new }
 {
-    let Some(j) = source else {
-        // Version 0 comes before all others, so no edge leads to it, and its node stands in none.
-        let initial = Version {
-            node: ranks.count,
-            rank: 0,
-        };
-        draw_versions(mat, ranks, k, initial, item);
-        return;
-    };
-    if j == k {
+    let node = source.unwrap_or(ranks.count);
+    if node == k {
         return;
     }
-    set_edge(mat, j, k);
-    draw_versions(mat, ranks, k, ranks.version(j, item), item);
+    if node < ranks.count {
+        set_edge(mat, node, k);
+        draw_versions(mat, ranks, k, ranks.version(node, item), item);
+    } else {
+        // Version 0 comes before all others, so no edge leads to it, and its node stands in none.
+        draw_versions(mat, ranks, k, Version { node, rank: 0 }, item);
+    }
 }
