@@ -1,7 +1,6 @@
 -- A refusal of a log keeps its code and its number, and the two tell the refusal back.
 -- Assumes nothing.
-use Prim.Native.Nat.{ℕ, ◌≤◌}
-use native.Mathlib.Omega.{arith}
+use Prim.Native.Nat.{ℕ}
 use mathlib.Core.Path.{◌≡◌, refl}
 use mathlib.Core.List.{List}
 use Rattle.log_format.specs.Bytes.{Bytes}
@@ -10,8 +9,8 @@ use Rattle.history_rules.specs.declared.Fault.TheVariants.{Stamp, Item, Version}
 use Rattle.history_rules.specs.declared.BadLog.{BadLog}
 use Rattle.history_rules.specs.declared.BadLog.TheVariants.{NoLog, BadField, Wrong, TooMany, Dangling}
 use Rattle.history_rules.specs.History.{refused, history_of}
-use Rattle.history_rules.specs.Answers.{BadAt, no_record, no_right, FirstBadField}
-use Rattle.history_rules.specs.Wrong.{Lowest, none, is23, is24, is25}
+use Rattle.history_rules.specs.Answers.{BadAt, no_record, no_right}
+use Rattle.history_rules.specs.Wrong.{none, is23, is24, is25}
 use Rattle.history_rules.specs.Refusals.{bad_log_code, bad_log_number, bad_log_with}
 use Rattle.history_rules.proofs.HistoryLaws.{refusal}
 
