@@ -1,6 +1,6 @@
 -- What a map says of the transactions of a log, and what noting a record leaves.
 -- Assumes nothing.
-use Rattle.std.specs.Prelude.{ℕ, ◌+◌, ◌≡◌, List, length, Result, Ok, Err, ⊤}
+use Rattle.std.specs.Prelude.{ℕ, ◌+◌, ◌≡◌, List, length, Option, Some, None, Result, Ok, Err, ⊤}
 use Rattle.log_format.specs.Events.{Event}
 use Rattle.history_rules.specs.Faults.{unbegun, running, committed, aborted, fault_by}
 use Rattle.history_rules.specs.Refusals.{fault_code}
@@ -16,6 +16,11 @@ stage_number Unbegun = unbegun
 stage_number Running = running
 stage_number Committed = committed
 stage_number Aborted = aborted
+
+-- what a transaction wrote to an item, as a table has it
+abbrev pub written_number : Option ℕ → ℕ
+written_number None = 0
+written_number (Some v) = v + 1
 
 -- the code of an event after those that a table has, 23 to 25, or 0
 abbrev pub fault_in : (ℕ → ℕ) → Event → ℕ

@@ -8,7 +8,7 @@ ghost use Rattle.log_format.specs.Events.{begins, reads, writes, commits, event_
 ghost use Rattle.history_rules.specs.Faults.{idle, unfit, unread};
 ghost use Rattle.history_rules.specs.Held.{stage_key, item_key, stage_in, written_in};
 ghost use Rattle.index.specs.Index.{table_of, Table, Room};
-ghost use Rattle.transactions.specs.Transactions.{stage_number, told_code, fault_in, Noted};
+ghost use Rattle.transactions.specs.Transactions.{stage_number, written_number, told_code, fault_in, Noted};
 
 use history_rules::Fault;
 use log_format::{Record, Stamp};
@@ -68,11 +68,11 @@ impl Transactions<'_> {
         index::get(self.map, stage_key(stamp)) == u64::from(stage)
     }
 
-    // One more than the value that a transaction wrote to an item, or 0.
-    pub fn written_of(&self, stamp: Stamp, item: u8) -> u64
-        ensures { result ≡ written_in (table_of self.now.map.now) stamp.0 item }
+    // The value that a transaction wrote to an item, if it wrote one. The map has one more than the value, as a u64.
+    pub fn written(&self, stamp: Stamp, item: u8) -> Option<u64>
+        ensures { written_number result ≡ written_in (table_of self.now.map.now) stamp.0 item }
     {
-        index::get(self.map, item_key(stamp, item))
+        index::get(self.map, item_key(stamp, item)).checked_sub(1)
     }
 
     // ---- codes 23 to 25
@@ -91,15 +91,14 @@ impl Transactions<'_> {
         if version.0 == 0 {
             return value != 0;
         }
-        self.written_of(version, item) != u64::from(value) + 1
-            || self.is_at(version, Stage::Aborted)
+        self.written(version, item) != Some(u64::from(value)) || self.is_at(version, Stage::Aborted)
     }
 
     // Whether the reader may not read an item in a version with the value: it has an earlier write of its own, or the version is unfit. 25.
     fn is_unread(&self, stamp: Stamp, item: u8, version: Stamp, value: u32) -> bool
         ensures { result ≡ unread (stage_in (table_of self.now.map.now)) (written_in (table_of self.now.map.now)) stamp.0 item version.0 value }
     {
-        (self.written_of(stamp, item) != 0 && version != stamp)
+        (self.written(stamp, item).is_some() && version != stamp)
             || self.is_unfit(item, version, value)
     }
 
@@ -146,7 +145,7 @@ impl Transactions<'_> {
         if self.is_idle(stamp) {
             return Err(Fault::Stamp);
         }
-        if MAX_ITEM < item || self.written_of(stamp, item) != 0 {
+        if MAX_ITEM < item || self.written(stamp, item).is_some() {
             return Err(Fault::Item);
         }
         Ok(())

@@ -70,7 +70,7 @@ impl Committed<'_> {
         ensures { result ≡ differ (written_in (table_of self.now.map.now) stamp item) 0 }
     {
         let noted = Transactions { map: self.map };
-        noted.written_of(Stamp(stamp), item) != 0
+        noted.written(Stamp(stamp), item).is_some()
     }
 }
 
