@@ -11,43 +11,23 @@ use std::io;
 // ---- operations
 
 fn begin(stamp: u32) -> Op {
-    Op {
-        kind: 1,
-        stamp: Stamp(stamp),
-        item: 0,
-        value: 0,
-    }
+    Op::begin(Stamp(stamp))
 }
 
 fn read(stamp: u32, item: u32) -> Op {
-    Op {
-        kind: 2,
-        item,
-        ..begin(stamp)
-    }
+    Op::read(Stamp(stamp), item)
 }
 
 fn write(stamp: u32, item: u32, value: u32) -> Op {
-    Op {
-        kind: 3,
-        stamp: Stamp(stamp),
-        item,
-        value,
-    }
+    Op::write(Stamp(stamp), item, value)
 }
 
 fn commit(stamp: u32) -> Op {
-    Op {
-        kind: 4,
-        ..begin(stamp)
-    }
+    Op::commit(Stamp(stamp))
 }
 
 fn abort(stamp: u32) -> Op {
-    Op {
-        kind: 5,
-        ..begin(stamp)
-    }
+    Op::abort(Stamp(stamp))
 }
 
 // ---- calls

@@ -81,13 +81,7 @@ fn read_line(line: &[u8], at: usize) -> Option<Op>
 {
     let (stamp, after) = decimal_at(line, at)?;
     let (item, end) = spaced_at(line, after)?;
-    let op = Op {
-        kind: 2,
-        stamp: Stamp(stamp),
-        item,
-        value: 0,
-    };
-    ended(line, end, op)
+    ended(line, end, Op::read(Stamp(stamp), item))
 }
 
 // A write's line: its stamp begins at a place, then its item, and its value ends it.
@@ -98,13 +92,7 @@ fn write_line(line: &[u8], at: usize) -> Option<Op>
     let (stamp, after) = decimal_at(line, at)?;
     let (item, behind) = spaced_at(line, after)?;
     let (value, end) = spaced_at(line, behind)?;
-    let op = Op {
-        kind: 3,
-        stamp: Stamp(stamp),
-        item,
-        value,
-    };
-    ended(line, end, op)
+    ended(line, end, Op::write(Stamp(stamp), item, value))
 }
 
 // The place after a keyword that the line begins with.

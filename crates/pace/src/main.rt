@@ -9,15 +9,6 @@ use scheduler_rules::{Op, Reply};
 use std::io;
 use std::io::Read;
 
-fn operation(kind: u32, stamp: u32, item: u32, value: u32) -> Op {
-    Op {
-        kind,
-        stamp: Stamp(stamp),
-        item,
-        value,
-    }
-}
-
 // The decimal at the front of the bytes, at most nine digits.
 fn decimal(text: &[u8]) -> u64 {
     let mut n: u64 = 0;
@@ -33,16 +24,16 @@ fn decimal(text: &[u8]) -> u64 {
 // 1,000 versions, 64 to a transaction, all committed.
 fn fill(state: &mut State, log: &mut [u8]) {
     for i in 0..1000 {
-        let stamp = i / 64 + 1;
+        let stamp = Stamp(i / 64 + 1);
         if i % 64 == 0 {
-            state.call(operation(1, stamp, 0, 0), log);
+            state.call(Op::begin(stamp), log);
         }
-        state.call(operation(3, stamp, i % 64, i), log);
+        state.call(Op::write(stamp, i % 64, i), log);
         if i % 64 == 63 {
-            state.call(operation(4, stamp, 0, 0), log);
+            state.call(Op::commit(stamp), log);
         }
     }
-    state.call(operation(4, 16, 0, 0), log);
+    state.call(Op::commit(Stamp(16)), log);
 }
 
 // The next number of a simple row.
@@ -50,13 +41,13 @@ fn shaken(x: u32) -> u32 {
     ((u64::from(x) * 1103515245 + 12345) % 2147483648) as u32
 }
 
-fn chosen(turn: u64, stamp: u32, x: u32) -> Op {
+fn chosen(turn: u64, stamp: Stamp, x: u32) -> Op {
     let item = x / 64 % 64;
     match turn {
-        0 => operation(1, stamp, 0, 0),
-        2 => operation(3, stamp, item, x),
-        4 => operation(5, stamp, 0, 0),
-        _ => operation(2, stamp, item, 0),
+        0 => Op::begin(stamp),
+        2 => Op::write(stamp, item, x),
+        4 => Op::abort(stamp),
+        _ => Op::read(stamp, item),
     }
 }
 
@@ -85,7 +76,7 @@ fn measured(state: &mut State, n: u64, log: &mut [u8]) -> u64 {
     let mut x: u32 = 1;
     for i in 0..n {
         stamp = turned(i % 5, stamp);
-        let op = chosen(i % 5, stamp, x);
+        let op = chosen(i % 5, Stamp(stamp), x);
         x = shaken(x);
         state.core.used.0 = rewound(state.core.used.0, base);
         sum = folded(sum, state.call(op, log));

@@ -1,5 +1,7 @@
-// What the scheduler is asked and what it answers. The rules are in specs/; the crate has no function.
+// What the scheduler is asked and what it answers. The rules are in specs/.
 #![tactic(auto)]
+
+ghost use Rattle.std.specs.Prelude.{◌≡◌};
 
 use log_format::Stamp;
 
@@ -13,8 +15,60 @@ pub struct Op {
 }
 
 impl Op {
+    ghost use Rattle.scheduler_rules.specs.Run.{begin, read, write, commit, abort};
+
     // Items are 0 to this.
     pub const MOST_ITEM: u32 = 63;
+
+    pub fn begin(stamp: Stamp) -> Self
+        ensures { result ≡ begin stamp.0 }
+    {
+        Op {
+            kind: 1,
+            stamp,
+            item: 0,
+            value: 0,
+        }
+    }
+
+    pub fn read(stamp: Stamp, item: u32) -> Self
+        ensures { result ≡ read stamp.0 item }
+    {
+        Op {
+            kind: 2,
+            item,
+            ..Op::begin(stamp)
+        }
+    }
+
+    pub fn write(stamp: Stamp, item: u32, value: u32) -> Self
+        ensures { result ≡ write stamp.0 item value }
+    {
+        Op {
+            kind: 3,
+            stamp,
+            item,
+            value,
+        }
+    }
+
+    pub fn commit(stamp: Stamp) -> Self
+        ensures { result ≡ commit stamp.0 }
+    {
+        Op {
+            kind: 4,
+            ..Op::begin(stamp)
+        }
+    }
+
+    pub fn abort(stamp: Stamp) -> Self
+        ensures { result ≡ abort stamp.0 }
+    {
+        Op {
+            kind: 5,
+            ..Op::begin(stamp)
+        }
+    }
 }
 
 // A reply: the code, then what the page's table says of the code.
