@@ -1,7 +1,7 @@
 // Reading operation lines: what a line of bytes asks.
 #![tactic(auto)]
 
-ghost use Rattle.std.specs.Prelude.{◌≡◌, ◌≤◌, true, length, drop, SomeIff};
+ghost use Rattle.std.specs.Prelude.{◌≡◌, ℕ, option_map, ◌≤◌, true, length, drop, SomeIff};
 ghost use Rattle.scheduler_rules.specs.Run.{read, write};
 ghost use Rattle.line_format.specs.Decimals.{more_digits, decimal_at};
 ghost use Rattle.line_format.specs.Lines.{starts, spaced_at, ended, stamp_op, one_number, two_numbers, three_numbers, parse_line};
@@ -59,19 +59,13 @@ fn ended(line: &[u8], at: usize, op: Op) -> Option<Op>
     (at == line.len()).then_some(op)
 }
 
-// A line whose one number, a stamp, begins at a place and ends it.
+// The stamp that begins at a place of a line and ends it.
 #[tactic(auto, unfolding(line_format::specs::Lines::one_number))]
-fn stamp_line(line: &[u8], at: usize, kind: u32) -> Option<Op>
-    ensures { result ≡ one_number (stamp_op kind) line.now at }
+fn last_stamp(line: &[u8], at: usize) -> Option<Stamp>
+    ensures { (f : ℕ → Op) → option_map (λ (s : Stamp). f s.0) result ≡ one_number f line.now at }
 {
     let (stamp, end) = decimal_at(line, at)?;
-    let op = Op {
-        kind,
-        stamp: Stamp(stamp),
-        item: 0,
-        value: 0,
-    };
-    ended(line, end, op)
+    (end == line.len()).then_some(Stamp(stamp))
 }
 
 // A read's line: its stamp begins at a place, its item ends it.
@@ -110,15 +104,15 @@ pub fn parse(line: &[u8]) -> Option<Op>
     if line.len() > LONGEST {
         None
     } else if let Some(at) = after(line, b"begin ") {
-        stamp_line(line, at, 1)
+        Some(Op::begin(last_stamp(line, at)?))
     } else if let Some(at) = after(line, b"read ") {
         read_line(line, at)
     } else if let Some(at) = after(line, b"write ") {
         write_line(line, at)
     } else if let Some(at) = after(line, b"commit ") {
-        stamp_line(line, at, 4)
+        Some(Op::commit(last_stamp(line, at)?))
     } else if let Some(at) = after(line, b"abort ") {
-        stamp_line(line, at, 5)
+        Some(Op::abort(last_stamp(line, at)?))
     } else {
         None
     }

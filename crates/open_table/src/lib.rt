@@ -44,8 +44,8 @@ impl OpenTable {
 
     // The table with the stamp after the others.
     pub fn insert(mut self, k: Stamp) -> Self
-        requires fact_1 { Padded self }
-        requires fact_2 { self.count < max_open }
+        requires padded { Padded self }
+        requires room { self.count < max_open }
         ensures { result ≡ table_of (stamps_of self ++ k.0 ∷ []) }
     {
         self.stamps[self.count] = k;

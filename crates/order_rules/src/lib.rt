@@ -2,6 +2,9 @@
 // no function.
 #![tactic(auto)]
 
+// The tag of a version order's fields.
+pub const TAG: u8 = 32;
+
 // How a field of a version order begins: its item, and how many stamps follow it.
 #[derive(Clone, Copy, Debug, PartialEq, Eq)]
 pub struct Head {

@@ -11,11 +11,9 @@ ghost use Rattle.order_rules.specs.Timestamps.{versions_by, order_by, Wrote};
 ghost use Rattle.order_writer.specs.Writing.{size_of, stamp_if, field_bytes, Placed};
 
 use log_writer::put_bytes;
-use order_rules::NoRoom;
+use order_rules::{NoRoom, TAG};
 use version_order::Committed;
 
-// The tag of a version order's fields.
-const TAG: u8 = 32;
 // How many items there are, as a field has them.
 const ITEMS: u8 = numbers::ITEMS as u8;
 

@@ -16,11 +16,8 @@ ghost use Rattle.version_order.specs.Judging.{Rising-prop, passes, Clear, gap_at
 use log_format::Stamp;
 use log_reader::{be32, body_len};
 use numbers::MAX_ITEM;
-use order_rules::{BadOrder, Head};
+use order_rules::{BadOrder, Head, TAG};
 use transactions::Transactions;
-
-// The tag of a version order's fields.
-const TAG: u8 = 32;
 
 // ---- the bytes
 

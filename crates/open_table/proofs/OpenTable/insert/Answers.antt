@@ -3,4 +3,4 @@ use Rattle.open_table.proofs.TableLaws.{insert_padded}
 use Rattle.open_table.proofs.OpenTable.insert.Goals as goal
 
 pub returns : goal.returns
-returns c = insert_padded c.args.self c.args.k c.requires.fact_1 c.requires.fact_2
+returns c = insert_padded c.args.self c.args.k c.requires.padded c.requires.room

@@ -15,7 +15,7 @@ insert-kept-requires c =
     let places : length c.args.self.stamps ≡ 32 = omega arith in
     let short : length l ≤ 32 = omega (arith, length-take-le c.taken.result c.args.self.stamps) in
     let room = kept_room c.args.k.0 l p.s-index p.kept c.loop-s-test.true short p.invariant in
-    record { fact_1 = room.0; fact_2 = room.1 }
+    record { padded = room.0; room = room.1 }
 
 pub loop-s-preserved : goal.loop-s-preserved
 loop-s-preserved c =
