@@ -34,6 +34,7 @@ fn order_read(log: &[u8], committed: &Committed, out: &mut [u8]) -> Result<usize
 pub fn write_order(log: &[u8], out: &mut [u8]) -> Result<usize, Refusal>
     ensures { OrderIs log.now out.old result out.new }
 {
+    // The working memory stands in the top function, since it is lent until the end.
     let mut map = [0u64; index::WORDS];
     let mut nodes = [0u32; numbers::MAX_COMMITTED];
     let count = history::read_history(log, &mut map, &mut nodes)?;
@@ -87,6 +88,7 @@ fn check_read(
 pub fn check(log: &[u8], order: &[u8], answer: &mut [u8]) -> Result<Verdict, Refusal>
     ensures { CheckIs log.now order.now answer.old result answer.new }
 {
+    // The working memory stands in the top function, since it is lent until the end.
     let mut map = [0u64; index::WORDS];
     let mut nodes = [0u32; numbers::MAX_COMMITTED];
     let count = history::read_history(log, &mut map, &mut nodes)?;

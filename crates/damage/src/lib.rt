@@ -26,6 +26,7 @@ fn rows_sound(versions: &Versions, last: Stamp) -> bool
     let mut sound = true;
     let mut w = 0;
     let mut j = 0;
+    // By index, since three columns are read at one place.
     for i in 0..versions.count {
         let x = versions.items[i];
         let k = versions.stamps[i];

@@ -154,6 +154,7 @@ pub enum Due {
 }
 
 impl Due {
+    // The record is not made yet, so log_writer cannot tell its size.
     // The bytes of the record.
     fn size(self) -> usize
         ensures { result ≡ bytes_of self }

@@ -32,6 +32,7 @@ impl Graph<'_> {
     }
 }
 
+// The matrix that is written is lent as bytes: a struct round the reference would need a clause about it in each function.
 // ---- drawing
 
 // The ranks of the nodes' versions, 64 a node, one an item: one more than the place of the node's version among the item's versions,
@@ -116,6 +117,7 @@ pub fn draw_read(mat: &mut [u8], ranks: Ranks, k: usize, source: Option<usize>, 
     requires reader_node { k < ranks.count }
     ensures { Drew ranks.entry.ranks.now ranks.entry.count k item (unwrap_or source ranks.entry.count) mat.old mat.new }
 {
+    // A number that is no node's means version 0 as well, as the promise has it, so none becomes such a number.
     let node = source.unwrap_or(ranks.count);
     if node == k {
         return;

@@ -19,6 +19,7 @@ fn least_at(cycle: &[u16]) -> usize
     requires { 0 < length cycle.now }
     ensures { IsFirstBest nat_lt cycle.now (length cycle.now) result }
 {
+    // By index: min_by_key promises a smallest, and not that it is the first of them.
     let mut least = 0;
     for i in 1..cycle.len() {
         if cycle[i] < cycle[least] {

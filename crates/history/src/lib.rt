@@ -37,6 +37,7 @@ fn walk(log: &[u8], map: &mut [u64]) -> Result<usize, BadLog>
     let mut at = Place::FIRST;
     let mut commits: usize = 0;
     loop {
+        // Each decoded field is taken apart by let else, the page's form; a field says where the next one begins.
         let Some((record, next)) = log_reader::decode_at(log, at)? else {
             return Ok(commits);
         };

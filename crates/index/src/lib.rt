@@ -31,6 +31,7 @@ pub fn get(map: &[u64], k: u64) -> u64
     requires { Table map.now }
     ensures { result ≡ table_of map.now k }
 {
+    // A chain of rows, which no method of the library walks. 0 where the key has none: the map is a function on all keys.
     let mut told = map[bucket(k) + 1] as usize;
     while let Some(row) = told.checked_sub(1) {
         let at = ROWS + 3 * row;
@@ -48,6 +49,7 @@ pub fn push(map: &mut [u64], k: u64, v: u64)
     requires { (Table map.old) × Room 1 map.old }
     ensures { Pushed map.old k v map.new }
 {
+    // On the words themselves: between these stores they are no table, so no type that keeps them one can do it.
     let n = map[0];
     let head = bucket(k) + 1;
     let older = map[head];

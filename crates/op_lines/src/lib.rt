@@ -18,6 +18,7 @@ fn more_digits(line: &[u8], from: usize, first: u32) -> Option<(u32, usize)>
     ensures { result ≡ more_digits first from (drop from line.now) }
 {
     let mut n = first;
+    // By place, which is what is answered.
     for at in from..line.len() {
         let b = line[at];
         if !b.is_ascii_digit() {

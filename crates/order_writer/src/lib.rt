@@ -45,6 +45,7 @@ fn needed(committed: &Committed) -> usize
     ensures { result ≡ length (order_by (written_in (table_of committed.now.map.now)) committed.now.nodes.now) }
 {
     let mut size: usize = 0;
+    // By hand, and not by sum: the invariant ties the sum so far to the order's length.
     for item in 0..ITEMS {
         size += field_size(count_versions(committed, item));
     }

@@ -81,6 +81,7 @@ fn put_reply(out: &mut [u8], op: Op, r: Reply) -> usize
     requires { 33 ≤ length out.old }
     ensures { Put out.old 0 (reply_line op r) result out.new }
 {
+    // The code is the page's number.
     match r.code {
         0 if op.kind == 2 => put_value(out, r.value, r.stamp.0),
         0 => put_word(out, b"ok\n"),

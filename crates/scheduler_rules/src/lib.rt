@@ -8,6 +8,7 @@ use log_format::Stamp;
 // An operation: kind (1 begin, 2 read, 3 write, 4 commit, 5 abort), stamp, item, value. A number the kind has no use for is 0.
 #[derive(Clone, Copy, Debug, PartialEq, Eq)]
 pub struct Op {
+    // A number, as the page has it: any may come, and one that is no kind is answered by 2.
     pub kind: u32,
     pub stamp: Stamp,
     pub item: u32,
@@ -74,6 +75,7 @@ impl Op {
 // A reply: the code, then what the page's table says of the code.
 #[derive(Clone, Copy, Debug, PartialEq, Eq)]
 pub struct Reply {
+    // A number, as the page has it: the reply table and its laws speak of it.
     pub code: u32,
     pub stamp: Stamp,
     pub value: u32,

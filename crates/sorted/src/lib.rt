@@ -18,6 +18,7 @@ pub fn add(stamps: &mut [u32], n: usize, k: u32) -> usize
     requires { (n < length stamps.old) × Rising 0 (take n stamps.old) }
     ensures { Added stamps.old n k stamps.new result }
 {
+    // The count is answered in both cases, since the caller needs it in both.
     let Err(at) = stamps[..n].binary_search(&k) else {
         return n;
     };

@@ -25,6 +25,7 @@ fn count_all(graph: Graph, deg: &mut [u16])
     ensures { Counted (edge_at graph.entry.matrix.now) graph.entry.count deg.new }
 {
     for k in 0..graph.count {
+        // By index: the buffer may be longer than the nodes, and of a lent part a loop by iter_mut says too little.
         deg[k] = degree(graph, k) + 1;
     }
 }
@@ -45,6 +46,7 @@ fn take_node(graph: Graph, k: usize, deg: &mut [u16])
     ensures { Lowered (edge_at graph.entry.matrix.now) graph.entry.count k deg.old deg.new }
 {
     for j in 0..graph.count {
+        // By index, as above.
         if graph.edge(k, j) {
             deg[j] = deg[j].saturating_sub(1);
         }

@@ -31,6 +31,7 @@ fn put_stamps(line: &mut Line, answer: &[u8], n: usize)
     ensures same_room { length line.new.out.now ≡ length line.old.out.now }
     ensures put { Put line.old.out.now line.old.len (each_spaced (stamps_at answer.now 0 n)) line.new.len line.new.out.now }
 {
+    // By index: the i-th stamp, as the clause says it.
     for i in 0..n {
         put_spaced(line, u64::from(log_reader::be32(answer, 4 * i)));
     }

@@ -11,6 +11,7 @@ use log_format::Stamp;
 
 #[derive(Clone, Copy, Debug, PartialEq, Eq)]
 pub struct Versions {
+    // Columns and not rows: the damage pass is vector code over them (docs/DECISIONS.md, "Columns and not rows").
     pub items: [u32; 1024],
     pub stamps: [u32; 1024],
     pub values: [u32; 1024],
@@ -159,6 +160,7 @@ fn remove_in(
     ensures { Narrowed stamp.0 count stamps.now column.old column.new result }
 {
     let mut left = from;
+    // By index, since two columns are read at one place.
     for i in from..count {
         let x = column[i];
         column[i] = 0;

@@ -113,6 +113,7 @@ fn note_all(
     ensures { FieldRanked (written_in (table_of committed.now.map.now)) committed.now.nodes.now head.item
         (stamps_at order.now (at + 4) head.stamps) rank.old (passes result) rank.new }
 {
+    // By index: the i-th stamp, as the clause says it.
     for i in 0..head.stamps {
         let stamp = be32(order, at + 4 + 4 * i);
         note(committed, head.item, stamp, (i + 1) as u16, rank)?;
