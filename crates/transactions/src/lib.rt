@@ -61,11 +61,18 @@ pub struct Transactions<'a> {
 }
 
 impl Transactions<'_> {
+    // How far a transaction has come, as the map has it.
+    pub fn stage_of(&self, stamp: Stamp) -> u64
+        ensures { result ≡ stage_in (table_of self.now.map.now) stamp.0 }
+    {
+        index::get(self.map, stage_key(stamp))
+    }
+
     // Whether a transaction has come to a stage and no further.
     pub fn is_at(&self, stamp: Stamp, stage: Stage) -> bool
         ensures { result ≡ eqb (stage_in (table_of self.now.map.now) stamp.0) (stage_number stage) }
     {
-        index::get(self.map, stage_key(stamp)) == u64::from(stage)
+        self.stage_of(stamp) == u64::from(stage)
     }
 
     // The value that a transaction wrote to an item, if it wrote one. The map has one more than the value, as a u64.
@@ -95,10 +102,11 @@ impl Transactions<'_> {
     }
 
     // Whether the reader may not read an item in a version with the value: it has an earlier write of its own, or the version is unfit. 25.
+    // The stamps are compared first, so that a read of one's own version asks the map for it once.
     fn is_unread(&self, stamp: Stamp, item: u8, version: Stamp, value: u32) -> bool
         ensures { result ≡ unread (stage_in (table_of self.now.map.now)) (written_in (table_of self.now.map.now)) stamp.0 item version.0 value }
     {
-        (self.written(stamp, item).is_some() && version != stamp)
+        (version != stamp && self.written(stamp, item).is_some())
             || self.is_unfit(item, version, value)
     }
 
