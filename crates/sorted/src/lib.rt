@@ -13,6 +13,23 @@ pub fn find(stamps: &[u32], k: u32) -> Option<usize>
     stamps.binary_search(&k).ok()
 }
 
+// The same. Stamps that are asked for one after the other mostly stand side by side, so the stamp is looked for beside a place first, that of
+// the one before it, say.
+pub fn find_near(stamps: &[u32], near: usize, k: u32) -> Option<usize>
+    requires { Rising 0 stamps.now }
+    ensures { Located stamps.now k result }
+{
+    let after = near.saturating_add(1);
+    if after < stamps.len() && stamps[after] == k {
+        return Some(after);
+    }
+    let before = near.saturating_sub(1);
+    if before < stamps.len() && stamps[before] == k {
+        return Some(before);
+    }
+    find(stamps, k)
+}
+
 // k in its place among the first n, where it is none of them already; their count then. No place past them changes.
 pub fn add(stamps: &mut [u32], n: usize, k: u32) -> usize
     requires { (n < length stamps.old) × Rising 0 (take n stamps.old) }

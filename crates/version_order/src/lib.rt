@@ -52,6 +52,15 @@ fn found_at(order: &[u8], at: usize) -> Result<Option<Head>, BadOrder>
 
 // ---- what the committed wrote
 
+// Whether the map says that the transaction wrote the item.
+pub fn wrote(map: &[u64], stamp: u32, item: u8) -> bool
+    requires { Table map.now }
+    ensures { result ≡ differ (written_in (table_of map.now) stamp item) 0 }
+{
+    let noted = Transactions { map };
+    noted.written(Stamp(stamp), item).is_some()
+}
+
 // The committed transactions of a log: the map that says what each wrote, and their stamps.
 #[derive(Clone, Copy)]
 pub struct Committed<'a> {
@@ -62,32 +71,34 @@ pub struct Committed<'a> {
 }
 
 impl Committed<'_> {
-    // Whether the map says that the transaction wrote the item.
+    // The same, of what the committed are told by.
     pub fn wrote(&self, stamp: u32, item: u8) -> bool
         ensures { result ≡ differ (written_in (table_of self.now.map.now) stamp item) 0 }
     {
-        let noted = Transactions { map: self.map };
-        noted.written(Stamp(stamp), item).is_some()
+        wrote(self.map, stamp, item)
     }
 }
 
 // ---- the ranks
 
 // Notes the stamp as the item's version with this rank. Refused, and nothing changes, where it is no committed version of the item or has a rank.
+// `near` has the node of the stamp before it, from which its own is looked for.
 fn note(
     committed: &Committed,
     item: u8,
     stamp: u32,
     place: u16,
+    near: &mut usize,
     rank: &mut [u16],
 ) -> Result<(), BadOrder>
     requires { (item ≤ most_item) × (length committed.now.nodes.now * items ≤ length rank.old) }
     ensures { Noted (written_in (table_of committed.now.map.now)) committed.now.nodes.now item stamp place rank.old (passes result)
         rank.new }
 {
-    let Some(node) = sorted::find(committed.nodes, stamp) else {
+    let Some(node) = sorted::find_near(committed.nodes, *near, stamp) else {
         return Err(BadOrder);
     };
+    *near = node;
     if !committed.wrote(stamp, item) {
         return Err(BadOrder);
     }
@@ -113,10 +124,11 @@ fn note_all(
     ensures { FieldRanked (written_in (table_of committed.now.map.now)) committed.now.nodes.now head.item
         (stamps_at order.now (at + 4) head.stamps) rank.old (passes result) rank.new }
 {
+    let mut near = 0;
     // By index: the i-th stamp, as the clause says it.
     for i in 0..head.stamps {
         let stamp = be32(order, at + 4 + 4 * i);
-        note(committed, head.item, stamp, (i + 1) as u16, rank)?;
+        note(committed, head.item, stamp, (i + 1) as u16, &mut near, rank)?;
     }
     Ok(())
 }
