@@ -46,10 +46,8 @@ fn take_node(graph: Graph, k: usize, deg: &mut [u16])
     ensures { Lowered (edge_at graph.entry.matrix.now) graph.entry.count k deg.old deg.new }
 {
     for j in 0..graph.count {
-        // By index, as above.
-        if graph.edge(k, j) {
-            deg[j] = deg[j].saturating_sub(1);
-        }
+        // By index, as above. Each number is stored, also where no edge leads to it, so that the loop is vector code.
+        deg[j] = deg[j].saturating_sub(u16::from(graph.edge(k, j)));
     }
     deg[k] = 0;
 }
