@@ -30,7 +30,11 @@ fn main(rt: HostRuntime) -> io::Result<()> {
     let mut log = [0u8; 65600];
     let mut out = [0u8; 65600];
     for _ in 0..u64::MAX {
-        let (Some(n), Some(room)) = (next_number(&mut input)?, next_number(&mut input)?) else {
+        // One after the other: where the input ends at the first, it is not asked again.
+        let Some(n) = next_number(&mut input)? else {
+            break;
+        };
+        let Some(room) = next_number(&mut input)? else {
             break;
         };
         let Some(log) = log.get_mut(..n) else {
