@@ -25,7 +25,9 @@ fn read_on<R: Read>(input: &mut R, buf: &mut [u8]) -> usize
 }
 
 // The bytes of a file that fit the buffer; none where no file is named, or it cannot be opened.
-fn read_file<'a, R: Files>(rt: &R, path: Option<&String>, buf: &'a mut [u8]) -> &'a [u8] {
+fn read_file<'a, R: Files>(rt: &R, path: Option<&String>, buf: &'a mut [u8]) -> &'a [u8]
+    ensures { length result.now ≤ length buf.old }
+{
     match path.map(|path| fs::open(rt, path)) {
         Some(Ok(mut file)) => {
             let n = read_on(&mut file, buf);
