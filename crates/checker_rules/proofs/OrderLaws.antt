@@ -10,7 +10,6 @@ use Rattle.log_format.specs.Events.{Event}
 use Rattle.history_rules.specs.History.{passed, refused, history_of}
 use Rattle.order_rules.specs.Timestamps.{timestamp_order}
 use Rattle.std.specs.Prelude.{Ok, Err}
-use Rattle.log_format.specs.Bytes.{Bytes}
 use Rattle.history_rules.specs.declared.BadLog.{BadLog}
 use Rattle.history_rules.specs.History.{History}
 use Rattle.history_rules.specs.Refusals.{bad_log_code, bad_log_number}
@@ -53,14 +52,14 @@ pub record Told (o : Order) : Type 0 where
   pub code : ordered_code (ordered_of o) ≡ code_for o
   pub number : ordered_number (ordered_of o) ≡ number_for o
 
-pub order_told : (log : List ℕ) → Bytes log → (room : ℕ) → Told (order_for log room)
+pub order_told : (log : List ℕ) (room : ℕ) → Told (order_for log room)
 unfolding order_for
-order_told log b room = by_history (history_of log) refl
+order_told log room = by_history (history_of log) refl
   where
     written_told : (log : List Event) (t : Bool) → Told (cond t (none 29 0) (wrote (timestamp_order log)))
     written_told log true = record { code = refl; number = refl }
     written_told log false = record { code = refl; number = refl }
 
     by_history : (h : History) → history_of log ≡ h → Told (order_by room h)
-    by_history (refused c p) e = let k = history_keeps log b c p e in record { code = k.code; number = k.number }
+    by_history (refused c p) e = let k = history_keeps log c p e in record { code = k.code; number = k.number }
     by_history (passed es) e = written_told es (ltb room (length (timestamp_order es)))

@@ -5,10 +5,8 @@ use native.Mathlib.Omega.{arith}
 use mathlib.Core.Path.{◌≡◌, refl}
 use mathlib.Core.List.{List}
 use borrow.Author.Tests.{ne_eqb}
-use Rattle.log_format.specs.Bytes.{Bytes}
 use Rattle.history_rules.specs.History.{refused, history_of}
-use Rattle.history_rules.proofs.HistoryLaws.{refused_codes}
-use Rattle.history_rules.proofs.RefusalLaws.{refused_keeps}
+use Rattle.history_rules.proofs.RefusalLaws.{refused_keeps, refused_between}
 use Rattle.checker_rules.specs.declared.Refusal.{Refusal}
 use Rattle.checker_rules.specs.declared.Refusal.TheVariants.{Log, BadOrder, NoRoom}
 use Rattle.checker_rules.specs.Refusals.{refusal_code, refusal_number, refusal_with}
@@ -31,10 +29,10 @@ pub record Keeps (c n : ℕ) : Type 0 where
   pub code : refusal_code (refusal_with c n) ≡ c
   pub number : refusal_number (refusal_with c n) ≡ n
 
-pub history_keeps : (s : List ℕ) → Bytes s → (c p : ℕ) → history_of s ≡ refused c p → Keeps c p
-history_keeps s b c p e =
-    let k = refused_keeps s b c p e in
-    let q = refused_codes s b c p e in
+pub history_keeps : (s : List ℕ) (c p : ℕ) → history_of s ≡ refused c p → Keeps c p
+history_keeps s c p e =
+    let k = refused_keeps s c p e in
+    let q = refused_between s c p e in
     let x = ne_eqb c 28 (λ z. absurd (omega arith)) in
     let y = ne_eqb c 29 (λ z. absurd (omega arith)) in
     record { code = rw (x, y) k.code; number = rw (x, y) k.number }

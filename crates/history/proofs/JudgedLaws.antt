@@ -27,13 +27,13 @@ lent_zeros = record { table = empty_table words (omega arith); blank = λ k. loo
 
 module _ {s m : List ℕ} where
   -- a refusal is the log's
-  pub read_refused : Bytes s → (nodes : List ℕ) {r : Result ℕ BadLog} → Judgement s m r → (x : BadLog) → r ≡ Err x → ReadIs s m nodes (Err x)
-  read_refused b nodes {r} j x is = go (history_of s) refl (sym j.answer ∙ is)
+  pub read_refused : (nodes : List ℕ) {r : Result ℕ BadLog} → Judgement s m r → (x : BadLog) → r ≡ Err x → ReadIs s m nodes (Err x)
+  read_refused nodes {r} j x is = go (history_of s) refl (sym j.answer ∙ is)
     where
       go : (h : History) → history_of s ≡ h → judged_of h ≡ Err x → history_of s ≡ refused (bad_log_code x) (bad_log_number x)
       go (passed log) q f = let z : ◌≡◌ {A = ℕ} 0 1 = cc in absurd (omega arith)
       go (refused d n) q f =
-          let k = refused_keeps s b d n q in
+          let k = refused_keeps s d n q in
           let e : bad_log_with d n ≡ x = cc in
           q ∙ rw (← e, k.code, k.number)
 

@@ -69,7 +69,7 @@ module _ {log order b : List ℕ} {c : Result Verdict Refusal} {b' : List ℕ} (
 
   -- the line of what was answered is the verdict's
   line_is : line_of c b' ≡ verdict_line (answer_for log order (length b))
-  line_is = rw (k.answer, k.bytes) (line_back (answer_for log order (length b)) (told log order bl bo (length b)) b (stamps_small log order bl bo (length b)))
+  line_is = rw (k.answer, k.bytes) (line_back (answer_for log order (length b)) (told log order (length b)) b (stamps_small log order bl bo (length b)))
 
   -- and it fits
   pub told-written : (out : List ℕ) (n : ℕ) (out' : List ℕ) → Put out 0 (line_of c b') n out' → longest ≤ length out
@@ -77,5 +77,5 @@ module _ {log order b : List ℕ} {c : Result Verdict Refusal} {b' : List ℕ} (
   told-written out n out' p h =
       let room = length b in
       let a = answer_for log order room in
-      let s = line_short a (told log order bl bo room) (small log order bl bo room) (stamps_few log order bl bo room) (stamps_small log order bl bo room) in
+      let s = line_short a (told log order room) (small log order bl bo room) (stamps_few log order bl bo room) (stamps_small log order bl bo room) in
       put_written (subst (λ (l : List ℕ). Put out 0 l n out') line_is p) (omega arith)

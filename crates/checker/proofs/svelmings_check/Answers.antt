@@ -9,4 +9,4 @@ one_number-requires c =
     subst Small (sym c.check.ensures.answer) (small _ _ (λ i. (c.type_inv.log i).fits) (λ i. (c.type_inv.order i).fits) _)
 
 pub returns : goal.returns
-returns c = panel (λ i. (c.type_inv.log i).fits) (λ i. (c.type_inv.order i).fits) c.check.ensures c.one_number.ensures
+returns c = panel c.check.ensures c.one_number.ensures

@@ -7,7 +7,7 @@ use Rattle.history.proofs.read_history.Goals as goal
 pub returns-in_err-judge : goal.returns-in_err-judge
 returns-in_err-judge c =
     let p = err_from_is_err_and c.from_residual.result c.from_residual.ensures.1 in
-    rw (p.1, p.2) (read_refused (λ i. (c.type_inv.log i).fits) c.args.nodes.now c.judge.ensures _ c.in_err-judge.was)
+    rw (p.1, p.2) (read_refused c.args.nodes.now c.judge.ensures _ c.in_err-judge.was)
 
 pub returns : goal.returns
 returns c =
