@@ -8,7 +8,7 @@ use mathlib.Core.List.{List}
 use Rattle.log_format.specs.Bytes.{Bytes}
 use Rattle.history_rules.specs.WellFormed.{count_commits}
 use Rattle.history_rules.specs.History.{History, passed, refused, history_of}
-use Rattle.history_rules.proofs.HistoryLaws.{refused_codes}
+use Rattle.history_rules.proofs.RefusalLaws.{refused_codes}
 use Rattle.history_rules.proofs.PlaceLaws.{refused_place}
 use Rattle.serial_theory.specs.Judged.{verdict}
 use Rattle.order_rules.specs.Fields.{vs_of}
@@ -33,7 +33,7 @@ use Rattle.checker_rules.specs.Answers.{checked_of, checked_code, checked_number
 pub small : (log order : List ℕ) → Bytes log → Bytes order → (room : ℕ) → Small (checked_of (answer_for log order room))
 small log order bl bo room = answer_each log order bl bo room (λ (a : Answer). Small (checked_of a))
     (λ c p e. let k = history_keeps log c p e in
-    let q = refused_codes log bl c p e in
+    let q = refused_codes log c p e in
     let n = refused_place log bl c p e in
     record { code = omega arith; number = omega arith })
     (record { code = omega arith; number = omega arith })

@@ -6,7 +6,7 @@ use mathlib.Core.Path.{◌≡◌, refl}
 use mathlib.Core.List.{List}
 use borrow.Author.Tests.{ne_eqb}
 use Rattle.history_rules.specs.History.{refused, history_of}
-use Rattle.history_rules.proofs.RefusalLaws.{refused_keeps, refused_between}
+use Rattle.history_rules.proofs.RefusalLaws.{refused_keeps, refused_codes}
 use Rattle.checker_rules.specs.declared.Refusal.{Refusal}
 use Rattle.checker_rules.specs.declared.Refusal.TheVariants.{Log, BadOrder, NoRoom}
 use Rattle.checker_rules.specs.Refusals.{refusal_code, refusal_number, refusal_with}
@@ -32,7 +32,7 @@ pub record Keeps (c n : ℕ) : Type 0 where
 pub history_keeps : (s : List ℕ) (c p : ℕ) → history_of s ≡ refused c p → Keeps c p
 history_keeps s c p e =
     let k = refused_keeps s c p e in
-    let q = refused_between s c p e in
+    let q = refused_codes s c p e in
     let x = ne_eqb c 28 (λ z. absurd (omega arith)) in
     let y = ne_eqb c 29 (λ z. absurd (omega arith)) in
     record { code = rw (x, y) k.code; number = rw (x, y) k.number }

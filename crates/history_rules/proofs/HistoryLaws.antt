@@ -68,7 +68,7 @@ bad_codes (no_record k) = (omega arith, omega arith)
 bad_codes (no_right r n f st nz l) = let w = lowest_codes nz l in (omega arith, w.1)
 
 -- Q of the code and the number of a refusal
-abbrev OfRefusal : (ℕ → ℕ → Type 0) → History → Type 0
+abbrev pub OfRefusal : (ℕ → ℕ → Type 0) → History → Type 0
 OfRefusal Q (passed es) = Unit {0}
 OfRefusal Q (refused c p) = Q c p
 
@@ -88,11 +88,6 @@ module _ (s : List ℕ) (b : Bytes s) where
 
     pub refusal : (c p : ℕ) → history_of s ≡ refused c p → Q c p
     refusal c p e = subst (OfRefusal Q) e (each (history_of s) (history_answers s b))
-
-  -- there are no other codes
-  pub refused_codes : (c p : ℕ) → history_of s ≡ refused c p → (21 ≤ c) × (c ≤ 27)
-  refused_codes = refusal (λ c p. (21 ≤ c) × (c ≤ 27)) (λ n. (omega arith, omega arith))
-      (λ c p hd f. let w = bad_codes f.bad in (omega arith, omega arith)) (λ rs r ok m. (omega arith, omega arith)) (λ rs p r f. (omega arith, omega arith))
 
   -- 21: the log has no header, or is too long
   pub says_21 : (c p : ℕ) → history_of s ≡ refused c p → c ≡ 21 → (¬ Headed s) × (p ≡ 0)

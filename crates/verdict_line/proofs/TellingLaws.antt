@@ -31,7 +31,8 @@ unfolding splice
 front_stamps b ks f = (stamps_read (splice b 0 (stamp_bytes ks)) (drop (0 + length (stamp_bytes ks)) b) 0 ks refl f).0
 
 -- the line of an answer whose stamps stand at the buffer's front
-line_back : (a : Answer) → Told a → (b : List ℕ) → ((k : ℕ) → k ∈ stamps_for a → k < 2 ^ 32) → line_of (checked_of a) (splice b 0 (stamp_bytes (stamps_for a))) ≡ verdict_line a
+line_back : (a : Answer) → Told a → (b : List ℕ) → ((k : ℕ) → k ∈ stamps_for a → k < 2 ^ 32)
+    → line_of (checked_of a) (splice b 0 (stamp_bytes (stamps_for a))) ≡ verdict_line a
 line_back (no c n) t b f = rw (t.code, t.number)
 line_back (judged (accepted o)) t b f = ap (listed (bytes "accepted")) (front_stamps b o f)
 line_back (judged (cycle c)) t b f = ap (listed (bytes "cycle")) (front_stamps b c f)
@@ -41,7 +42,8 @@ few_back (no c n) h = tt
 few_back (judged (accepted o)) h = h
 few_back (judged (cycle c)) h = h
 
-listed_short : (word ks : List ℕ) → length word ≤ 8 → length ks ≤ 256 → ((k : ℕ) → k ∈ ks → k < 2 ^ 32) → length (listed word ks) ≤ longest
+listed_short : (word ks : List ℕ) → length word ≤ 8 → length ks ≤ 256 → ((k : ℕ) → k ∈ ks → k < 2 ^ 32)
+    → length (listed word ks) ≤ longest
 listed_short word ks w h f =
     let e = each_short ks f in
     let l = length-append word (each_spaced ks) in
@@ -57,8 +59,15 @@ refusal_short c n h k =
     let r = length-append (bytes "refused" ++ spaced c ++ spaced n) (bytes "\n") in
     omega arith
 
-line_short : (a : Answer) → Told a → Small (checked_of a) → length (stamps_for a) ≤ 256 → ((k : ℕ) → k ∈ stamps_for a → k < 2 ^ 32) → length (verdict_line a) ≤ longest
-line_short (no c n) t s h f = let u = t.code in let v = t.number in let p = s.code in let q = s.number in let r = refusal_short c n (omega arith) (omega arith) in omega arith
+line_short : (a : Answer) → Told a → Small (checked_of a) → length (stamps_for a) ≤ 256 → ((k : ℕ) → k ∈ stamps_for a → k < 2 ^ 32)
+    → length (verdict_line a) ≤ longest
+line_short (no c n) t s h f =
+    let u = t.code in
+    let v = t.number in
+    let p = s.code in
+    let q = s.number in
+    let r = refusal_short c n (omega arith) (omega arith) in
+    omega arith
 line_short (judged (accepted o)) t s h f = listed_short (bytes "accepted") o (omega arith) h f
 line_short (judged (cycle c)) t s h f = listed_short (bytes "cycle") c (omega arith) h f
 
